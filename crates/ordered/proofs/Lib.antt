@@ -1,0 +1,12 @@
+pub mod Orders
+pub mod Ascents
+pub mod Places
+pub mod Outcomes
+pub mod Spans
+pub mod Copies
+pub mod Contents
+pub mod Joins
+pub mod Lookups
+pub mod Counts
+pub mod Fronts
+pub mod Lawful

@@ -1,0 +1,62 @@
+// A key from its bytes, the bytes of a key, and its order against a byte string.
+ghost use mathlib.Core.Path.{_≡_};
+ghost use mathlib.Core.List.{_++_};
+ghost use Prim.Native.Nat.{_≤_};
+ghost use lib.ListN.{length};
+ghost use Rattle.ordered.specs.Order.{order};
+ghost use Rattle.ordered.specs.Keys.{content, Faithful};
+ghost use Rattle.ordered.specs.Replies.{contents, key-reply};
+use crate::fault::IndexFault;
+use crate::key::Key;
+use std::cmp::Ordering;
+
+impl Key {
+    // The most bytes that a key has.
+    pub const MAX: usize = 24;
+
+    // The key of the given bytes.
+    pub fn new(bytes: &[u8]) -> Result<Key, IndexFault>
+        ensures { λ r. ⌜ contents r ≡ key-reply (now (bytes .entry)) ⌝ }
+    {
+        Key::joined(bytes, &[])
+    }
+
+    // The key of the bytes of `front` and then those of `back`.
+    pub fn joined(front: &[u8], back: &[u8]) -> Result<Key, IndexFault>
+        ensures { λ r. ⌜ contents r ≡ key-reply (now (front .entry) ++ now (back .entry)) ⌝ }
+    {
+        let at = front.len();
+        if at > Key::MAX || back.len() > Key::MAX - at {
+            return Err(IndexFault::KeyTooLong);
+        }
+        let len = at + back.len();
+        let mut bytes = [0; 24];
+        bytes[0..at].copy_from_slice(front);
+        bytes[at..len].copy_from_slice(back);
+        Ok(Key {
+            bytes,
+            len: len as u8,
+        })
+    }
+
+    pub fn as_bytes(&self) -> &[u8]
+        ensures bytes { λ r. ⌜ now r ≡ content (now (self .entry)) ⌝ }
+        ensures short { λ r. ⌜ length (now r) ≤ 24 ⌝ }
+    {
+        &self.bytes[0..self.len as usize]
+    }
+
+    pub fn order(&self, bytes: &[u8]) -> Ordering
+        ensures { λ r. ⌜ r ≡ order (content (now (self .entry))) (now (bytes .entry)) ⌝ }
+    {
+        let own = self.as_bytes();
+        own.cmp(&bytes)
+    }
+}
+
+// Equal byte strings are equal keys.
+pub fn keys_stand() -> u8
+    ensures { λ _. ⌜ Faithful ⌝ }
+{
+    0
+}

@@ -1,0 +1,11 @@
+// An ordered index of byte-string keys: its keys, its faults, its calls and what they mean.
+mod fault;
+mod index;
+mod key;
+mod laws;
+
+pub use fault::IndexFault;
+pub use index::OrderedIndex;
+pub use key::Key;
+pub use key::keys_stand;
+pub use laws::laws_stand;

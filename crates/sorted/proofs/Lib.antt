@@ -1,0 +1,4 @@
+mod Searches
+mod Shifts
+mod Zips
+mod Spots

@@ -1,0 +1,34 @@
+-- What lent rows hold, and what always holds of them. Assumes nothing.
+use mathlib.Core.Path.{_≡_}
+use mathlib.Core.Bool.{true}
+use mathlib.Core.List.{List, map}
+use Prim.Native.Nat.{ℕ, _≤_}
+use native.Mathlib.Omega.{arith}
+use lib.ListN.{length, take, length-map, length-take}
+use denote.Ref.{now}
+use Rattle.std.specs.Finite.{zipped}
+use Rattle.std.proofs.shelf.Pairs.{length-zipped}
+use Rattle.sorted.specs.declared.rows.Rows.{Rows}
+use Rattle.ordered.specs.Order.{ascends}
+use Rattle.ordered.specs.Keys.{content}
+use Rattle.ordered.specs.Pairs.{Pairs, firsts}
+
+module _ {V : Type 0} where
+  abbrev pub places : Rows V → ℕ
+  places r = length (now (r .keys))
+
+  abbrev pub pairsOf : Rows V → Pairs V
+  pairsOf r = zipped (map content (take (r .len) (now (r .keys)))) (take (r .len) (now (r .values)))
+
+  abbrev pub Shape : Rows V → Type 0
+  Shape r = (r .len ≤ places r) × (length (now (r .values)) ≡ places r) × (1 ≤ places r) × (places r ≤ 4096)
+
+  abbrev pub Sound : Rows V → Type 0
+  Sound r = Shape r × (ascends (firsts (pairsOf r)) ≡ true)
+
+  -- ready to hold, with no pairs yet
+  abbrev pub Fresh : Rows V → Type 0
+  Fresh r = (r .len ≡ 0) × Shape r
+
+  pub rows-fit : (r : Rows V) → length (pairsOf r) ≤ places r
+  rows-fit r = simp (length-zipped, length-map, length-take) (omega arith)

@@ -1,0 +1,13 @@
+// Rows that passed the check of an opening. Only the check makes this type.
+ghost use Rattle.sorted.specs.Rows.{Fresh};
+use crate::rows::Rows;
+
+mod check;
+
+pub use check::OpenFault;
+
+#[derive(Drop)]
+pub struct Opening<'a, V> {
+    pub(crate) rows: Rows<'a, V>,
+    ghost ok: { Fresh rows },
+}
