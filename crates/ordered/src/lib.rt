@@ -5,6 +5,8 @@ mod key;
 mod laws;
 
 pub use fault::IndexFault;
+pub use fault::IndexFaultDebug;
+pub use fault::IndexFaultPartialEq;
 pub use index::OrderedIndex;
 pub use key::Key;
 pub use key::keys_stand;
