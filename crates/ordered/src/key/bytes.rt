@@ -1,6 +1,6 @@
 // A key from its bytes, the bytes of a key, and its order against a byte string.
 ghost use mathlib.Core.Path.{_≡_};
-ghost use mathlib.Core.List.{_++_};
+ghost use mathlib.Core.List.{[], _++_};
 ghost use Prim.Native.Nat.{_≤_};
 ghost use lib.ListN.{length};
 ghost use Rattle.ordered.specs.Order.{order};
@@ -13,6 +13,16 @@ use std::cmp::Ordering;
 impl Key {
     // The most bytes that a key has.
     pub const MAX: usize = 24;
+
+    // The key of no bytes.
+    pub fn empty() -> Key
+        ensures { λ r. ⌜ content r ≡ [] ⌝ }
+    {
+        Key {
+            bytes: [0; 24],
+            len: 0,
+        }
+    }
 
     // The key of the given bytes.
     pub fn new(bytes: &[u8]) -> Result<Key, IndexFault>

@@ -1,0 +1,49 @@
+-- The positions that rows of sixteen places take. Assumes nothing.
+use mathlib.Core.Path.{_≡_, refl, sym, ap, subst, _∙_}
+use mathlib.Core.Bool.{Bool, true, false, cond}
+use mathlib.Core.List.{List, [], _∷_, _++_, map}
+use Prim.Native.Nat.{ℕ, _≤_, min}
+use native.Mathlib.Omega.{arith}
+use lib.Dec.{ltb}
+use lib.IntN.{ℤ}
+use lib.ListN.{length, take, drop, length-take, length-map}
+use Rattle.std.specs.Finite.{zipped}
+use Rattle.std.specs.declared.result.Result.{Result}
+use Rattle.std.specs.declared.result.Result.the-variants.{Ok, Err}
+use Rattle.std.proofs.shelf.Lists.{take-at, take-map}
+use Rattle.ordered.specs.declared.key.Key.{Key}
+use Rattle.ordered.specs.Keys.{content}
+use Rattle.ordered.specs.Pairs.{Pairs, firsts, seconds, under, written}
+use Rattle.codes.specs.Codes.{is-member}
+use Rattle.positions.specs.declared.fault.PositionFault.{PositionFault}
+use Rattle.positions.specs.declared.fault.PositionFault.the-variants.{BadMember}
+use Rattle.positions.specs.Listing.{list-reply}
+use Rattle.console.specs.Answers.{listing-reply}
+
+-- what was written lies in front
+front : {A : Type 0} (row xs : List A) (n : ℕ) → length row ≡ 16 → n ≡ min 16 (length xs) → take n (written row xs) ≡ take 16 xs
+front row xs n wide e =
+    let long : length (take (length row) xs) ≡ n = length-take (length row) xs ∙ omega arith in
+    take-at (take (length row) xs) (drop (length xs) row) n long ∙ ap (λ k. take k xs) wide
+
+together : (ps : Pairs ℤ) → zipped (firsts ps) (seconds ps) ≡ ps
+together [] = refl
+together (p ∷ ps) = ap (λ qs. p ∷ qs) (together ps)
+
+told : (b : Bool) (n : ℕ) (more more′ : Bool) (m : ℕ) → _≡_ {A = Result (ℕ × Bool) PositionFault} (Ok (n, more)) (cond b (Ok (m, more′)) (Err BadMember)) → (b ≡ true) × (n ≡ m)
+told true n more more′ m e = let p : _≡_ {A = ℕ × Bool} (n, more) (m, more′) = cc in (refl, ap (λ x. x .0) p)
+told false n more more′ m e = let z : _≡_ {A = ℕ} 0 1 = cc in absurd (omega arith)
+
+module _ (ps : Pairs ℤ) (member : List ℕ) (ks row : List Key) (vs old : List ℤ) (n : ℕ) (more : Bool) where
+  abbrev own : Pairs ℤ
+  own = under member ps
+
+  pub gathered : length row ≡ 16 → length old ≡ 16 → Ok (n, more) ≡ list-reply ps member (length row) (length old) → map content ks ≡ written (map content row) (firsts own) → vs ≡ written old (seconds own) → Ok (zipped (map content (take n ks)) (take n vs)) ≡ listing-reply ps member
+  gathered wide even reply keys lots =
+      let r : Ok (n, more) ≡ cond (is-member member) (Ok (min 16 (length own), ltb 16 (length own))) (Err BadMember) = reply ∙ (λ i. list-reply ps member (wide i) (even i)) in
+      let t = told (is-member member) n more (ltb 16 (length own)) (min 16 (length own)) r in
+      let many : n ≡ min 16 (length (firsts own)) = t .1 ∙ ap (min 16) (sym (length-map own (λ p. p .0))) in
+      let many′ : n ≡ min 16 (length (seconds own)) = t .1 ∙ ap (min 16) (sym (length-map own (λ p. p .1))) in
+      let a : map content (take n ks) ≡ firsts (take 16 own) = sym (take-map content n ks) ∙ ap (take n) keys ∙ front (map content row) (firsts own) n (length-map row content ∙ wide) many ∙ take-map (λ p. p .0) 16 own in
+      let b : take n vs ≡ seconds (take 16 own) = ap (take n) lots ∙ front old (seconds own) n even many′ ∙ take-map (λ p. p .1) 16 own in
+      (λ i. Ok (zipped (a i) (b i))) ∙ ap Ok (together (take 16 own)) ∙ sym (rw (t .0) refl)

@@ -1,0 +1,7 @@
+mod Cuts
+mod Takes
+mod Digits
+mod Keeps
+mod Spells
+mod Gathers
+mod Listed

@@ -1,0 +1,61 @@
+// Positions listed, and their lines.
+ghost use mathlib.Core.Path.{_≡_};
+ghost use Prim.Native.Nat.{_<_};
+ghost use mathlib.Core.List.{[]};
+ghost use lib.IntN.{pos};
+ghost use lib.ListN.{getD};
+ghost use Rattle.std.specs.declared.option.Option.the-variants.{Some};
+ghost use Rattle.console.specs.Texts.{pair-text, listing-text};
+ghost use Rattle.console.specs.Answers.{listing-reply};
+ghost use Rattle.console.specs.Listings.{listing-pairs, listings, line-text};
+use crate::listing::Listing;
+use crate::position_line::PositionLine;
+use crate::position_line::PositionLineDisplay;
+use codes::Member;
+use ordered::Key;
+use ordered::OrderedIndex;
+use positions::PositionFault;
+use positions::Positions;
+use std::fmt;
+
+impl Listing {
+    // The positions of a member.
+    pub fn of<I: OrderedIndex<i64> + Drop>(
+        positions: &Positions<I>,
+        member: &[u8],
+    ) -> Result<Listing, PositionFault>
+        ensures { λ r. ⌜ listings r ≡ listing-reply (pairs (now (positions .entry) .index)) (now (member .entry)) ⌝ }
+    {
+        let mut keys = [Key::empty(); 16];
+        let mut lots = [0; 16];
+        let (count, _) = positions.list(member, &mut keys, &mut lots)?;
+        Ok(Listing { keys, lots, count })
+    }
+
+    // The line of the position at a place: the key's first four bytes are the member.
+    fn line(&self, at: usize) -> PositionLine<'_>
+        requires { ⌜ at < now self .count ⌝ }
+        ensures { λ r. ⌜ line-text r ≡ pair-text (getD (listing-pairs (now (self .entry))) at ([], pos 0)) ⌝ }
+    {
+        let bytes = self.keys[at].as_bytes();
+        let (member, code) = bytes.split_at(bytes.len().min(Member::LEN));
+        PositionLine {
+            member,
+            code,
+            lots: self.lots[at],
+        }
+    }
+}
+
+pub impl fmt::Display for Listing as ListingDisplay {
+    ghost shown = { λ l. Some (listing-text (listing-pairs l)) };
+
+    fn fmt<W: fmt::Write>(&self, f: &mut fmt::Formatter<W>) -> fmt::Result {
+        let count = self.count;
+        for at in 0..count {
+            let line = self.line(at);
+            writeln!(f, "{line}")?;
+        }
+        write!(f, "END {count}")
+    }
+}
