@@ -5,3 +5,4 @@ mod Keeps
 mod Spells
 mod Gathers
 mod Listed
+mod Posts

@@ -7,4 +7,6 @@ pub mod Lines
 pub mod Buffers
 pub mod Texts
 pub mod Answers
+pub mod Positions
 pub mod Listings
+pub mod Sayings

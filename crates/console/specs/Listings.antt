@@ -10,8 +10,6 @@ use Rattle.ordered.specs.Keys.{content}
 use Rattle.ordered.specs.Pairs.{Pairs}
 use Rattle.positions.specs.declared.fault.PositionFault.{PositionFault}
 use Rattle.console.specs.declared.listing.Listing.{Listing}
-use Rattle.console.specs.declared.position_line.PositionLine.{PositionLine}
-use Rattle.console.specs.Texts.{position-text}
 
 abbrev pub listing-pairs : Listing → Pairs ℤ
 listing-pairs l = zipped (map content (take (l .count) (l .keys))) (take (l .count) (l .lots))
@@ -19,6 +17,3 @@ listing-pairs l = zipped (map content (take (l .count) (l .keys))) (take (l .cou
 abbrev pub listings : Result Listing PositionFault → Result (Pairs ℤ) PositionFault
 listings (Ok l) = Ok (listing-pairs l)
 listings (Err f) = Err f
-
-abbrev pub line-text : PositionLine → List ℕ
-line-text p = position-text (p .member .now) (p .code .now) (p .lots)

@@ -2,8 +2,10 @@
 ghost use mathlib.Core.Path.{_≡_};
 ghost use Rattle.std.specs.declared.option.Option.the-variants.{Some};
 ghost use Rattle.console.specs.declared.fault.Fault.the-variants.{Line as line, Positions as positions};
+ghost use Rattle.positions.specs.declared.fault.PositionFault.the-variants.{Index};
 ghost use Rattle.console.specs.Numbers.{line-number, fault-number, layer-of};
 ghost use Rattle.console.specs.Texts.{layer-text};
+use ordered::IndexFault;
 use positions::PositionFault;
 use std::fmt;
 
@@ -92,5 +94,14 @@ pub impl From<PositionFault> for Fault as FaultFromPositions {
 
     fn from(fault: PositionFault) -> Fault {
         Fault::Positions(fault)
+    }
+}
+
+// The index stands under the positions.
+pub impl From<IndexFault> for Fault as FaultFromIndex {
+    ghost converts = { λ f r. r ≡ positions (Index f) };
+
+    fn from(fault: IndexFault) -> Fault {
+        Fault::Positions(PositionFault::Index(fault))
     }
 }

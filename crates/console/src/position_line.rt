@@ -1,9 +1,14 @@
 // One position as a line.
+ghost use mathlib.Core.Path.{_≡_};
 ghost use denote.Ref.{now as deref};
 ghost use Rattle.std.specs.declared.option.Option.the-variants.{Some};
-ghost use Rattle.console.specs.Texts.{position-text};
+ghost use Rattle.ordered.specs.Keys.{content};
+ghost use Rattle.console.specs.Texts.{position-text, pair-text};
+ghost use Rattle.console.specs.Positions.{line-text};
 use crate::text::Text;
 use crate::text::TextDisplay;
+use codes::Member;
+use ordered::Key;
 use std::fmt;
 
 #[derive(Clone, Copy)]
@@ -11,6 +16,17 @@ pub struct PositionLine<'a> {
     pub member: &'a [u8],
     pub code: &'a [u8],
     pub lots: i64,
+}
+
+impl<'a> PositionLine<'a> {
+    // A position by its key, whose first four bytes are the member.
+    pub fn of(key: &'a Key, lots: i64) -> PositionLine<'a>
+        ensures { λ r. ⌜ line-text r ≡ pair-text (content (now (key .entry)), lots) ⌝ }
+    {
+        let bytes = key.as_bytes();
+        let (member, code) = bytes.split_at(bytes.len().min(Member::LEN));
+        PositionLine { member, code, lots }
+    }
 }
 
 pub impl fmt::Display for PositionLine<'_> as PositionLineDisplay {

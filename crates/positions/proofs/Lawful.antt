@@ -60,16 +60,16 @@ module _ (ps : Pairs ℤ) (limit : ℕ) (member code : List ℕ) (lots : ℤ) wh
   abbrev by-tests : Bool → Bool → Bool → Bool → Bool → Result (Option ℤ) IndexFault → Result ℤ PositionFault
   by-tests a b c d e r = cond a (cond b (cond c (Err BadLots) (cond d (Err BeyondBounds) (cond e (Ok sum) (unless-refused sum r)))) (Err BadCode)) (Err BadMember)
 
-  accepted-by : (a b c d e : Bool) (r : Result (Option ℤ) IndexFault) (s : ℤ) → by-tests a b c d e r ≡ Ok s → (s ≡ sum) × (d ≡ false)
+  accepted-by : (a b c d e : Bool) (r : Result (Option ℤ) IndexFault) (s : ℤ) → by-tests a b c d e r ≡ Ok s → (s ≡ sum) × (d ≡ false) × (a ≡ true) × (b ≡ true)
   accepted-by false b c d e r s h = let z : _≡_ {A = ℕ} 0 1 = cc in absurd (omega arith)
   accepted-by true false c d e r s h = let z : _≡_ {A = ℕ} 0 1 = cc in absurd (omega arith)
   accepted-by true true true d e r s h = let z : _≡_ {A = ℕ} 0 1 = cc in absurd (omega arith)
   accepted-by true true false true e r s h = let z : _≡_ {A = ℕ} 0 1 = cc in absurd (omega arith)
-  accepted-by true true false false true r s h = (cc, refl)
-  accepted-by true true false false false (Ok o) s h = (cc, refl)
+  accepted-by true true false false true r s h = (cc, refl, refl, refl)
+  accepted-by true true false false false (Ok o) s h = (cc, refl, refl, refl)
   accepted-by true true false false false (Err f) s h = let z : _≡_ {A = ℕ} 0 1 = cc in absurd (omega arith)
 
-  accepted : (s : ℤ) → post-reply ps limit member code lots ≡ Ok s → (s ≡ sum) × (beyond 1000000000000 sum ≡ false)
+  pub accepted : (s : ℤ) → post-reply ps limit member code lots ≡ Ok s → (s ≡ sum) × (beyond 1000000000000 sum ≡ false) × (is-member member ≡ true) × (is-code code ≡ true)
   accepted s h = accepted-by (is-member member) (is-code code) (flat lots || beyond 1000000000 lots) (beyond 1000000000000 sum) (flat sum) (put-reply ps limit key) s h
 
   -- what a reply r leaves

@@ -1,3 +1,3 @@
 mod Exits
-mod Runs
-mod Lawful
+pub mod Runs
+pub mod Lawful

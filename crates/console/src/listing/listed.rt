@@ -7,11 +7,11 @@ ghost use lib.ListN.{getD};
 ghost use Rattle.std.specs.declared.option.Option.the-variants.{Some};
 ghost use Rattle.console.specs.Texts.{pair-text, listing-text};
 ghost use Rattle.console.specs.Answers.{listing-reply};
-ghost use Rattle.console.specs.Listings.{listing-pairs, listings, line-text};
+ghost use Rattle.console.specs.Listings.{listing-pairs, listings};
+ghost use Rattle.console.specs.Positions.{line-text};
 use crate::listing::Listing;
 use crate::position_line::PositionLine;
 use crate::position_line::PositionLineDisplay;
-use codes::Member;
 use ordered::Key;
 use ordered::OrderedIndex;
 use positions::PositionFault;
@@ -32,18 +32,12 @@ impl Listing {
         Ok(Listing { keys, lots, count })
     }
 
-    // The line of the position at a place: the key's first four bytes are the member.
+    // The line of the position at a place.
     fn line(&self, at: usize) -> PositionLine<'_>
         requires { ⌜ at < now self .count ⌝ }
         ensures { λ r. ⌜ line-text r ≡ pair-text (getD (listing-pairs (now (self .entry))) at ([], pos 0)) ⌝ }
     {
-        let bytes = self.keys[at].as_bytes();
-        let (member, code) = bytes.split_at(bytes.len().min(Member::LEN));
-        PositionLine {
-            member,
-            code,
-            lots: self.lots[at],
-        }
+        PositionLine::of(&self.keys[at], self.lots[at])
     }
 }
 
