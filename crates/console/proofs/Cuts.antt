@@ -19,11 +19,11 @@ abbrev pub before : List ℕ → List (List ℕ) → List (List ℕ)
 before w [] = w ∷ []
 before w (v ∷ vs) = (w ++ v) ∷ vs
 
-before-onto : (w : List ℕ) (b : ℕ) (ws : List (List ℕ)) → before w (onto b ws) ≡ before (w ++ b ∷ []) ws
+pub before-onto : (w : List ℕ) (b : ℕ) (ws : List (List ℕ)) → before w (onto b ws) ≡ before (w ++ b ∷ []) ws
 before-onto w b [] = refl
 before-onto w b (v ∷ vs) = ap (λ x. x ∷ vs) (sym (append-assoc w (b ∷ []) v))
 
-starts : (separator : ℕ) (s : List ℕ) → before [] (split separator s) ≡ split separator s
+pub starts : (separator : ℕ) (s : List ℕ) → before [] (split separator s) ≡ split separator s
 starts separator [] = refl
 starts separator (b ∷ s) = at (eqb b separator) (split separator s)
   where

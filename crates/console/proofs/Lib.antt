@@ -6,3 +6,6 @@ mod Spells
 mod Gathers
 mod Listed
 mod Posts
+mod Feeds
+mod Numerals
+mod Plains

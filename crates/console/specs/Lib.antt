@@ -10,3 +10,4 @@ pub mod Answers
 pub mod Positions
 pub mod Listings
 pub mod Sayings
+pub mod Laws

@@ -1,0 +1,8 @@
+// What holds of lines, numbers and texts.
+ghost use Rattle.console.specs.Laws.{Laws};
+
+pub fn laws_stand() -> u8
+    ensures { λ _. ⌜ Laws ⌝ }
+{
+    0
+}
