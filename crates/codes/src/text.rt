@@ -3,7 +3,7 @@ ghost use mathlib.Core.Path.{_≡_};
 ghost use Rattle.codes.specs.Alphabets.{allowed, all-allowed};
 
 #[derive(Clone, Copy)]
-pub enum Alphabet {
+pub(crate) enum Alphabet {
     // A to Z and 0 to 9.
     LettersAndDigits,
     // These and the hyphen.
@@ -11,7 +11,7 @@ pub enum Alphabet {
 }
 
 impl Alphabet {
-    pub fn has(self, byte: u8) -> bool
+    pub(crate) fn has(self, byte: u8) -> bool
         ensures { λ r. ⌜ r ≡ allowed self byte ⌝ }
     {
         match self {
@@ -20,7 +20,7 @@ impl Alphabet {
         }
     }
 
-    pub fn has_all(self, text: &[u8]) -> bool
+    pub(crate) fn has_all(self, text: &[u8]) -> bool
         ensures { λ r. ⌜ r ≡ all-allowed self (now (text .entry)) ⌝ }
     {
         for byte in text {

@@ -14,7 +14,9 @@ pub enum Command<'a> {
         lots: &'a [u8],
     },
     // L member
-    List { member: &'a [u8] },
+    List {
+        member: &'a [u8],
+    },
 }
 
 impl<'a> Command<'a> {

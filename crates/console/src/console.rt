@@ -26,6 +26,7 @@ pub struct Console<I: OrderedIndex<i64> + Drop> {
 }
 
 impl<I: OrderedIndex<i64> + Drop> Console<I> {
+    // Before the first line.
     pub fn new(positions: Positions<I>) -> Console<I>
         ensures positions { λ r. ⌜ r .positions ≡ positions ⌝ }
         ensures lines { λ r. ⌜ r .lines ≡ 0 ⌝ }

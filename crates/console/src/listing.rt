@@ -8,7 +8,6 @@ mod listed;
 
 pub use listed::ListingDisplay;
 
-
 #[derive(Clone, Copy)]
 pub struct Listing {
     keys: [Key; 16],

@@ -58,7 +58,7 @@ fn signed(word: &[u8]) -> Option<i64>
 }
 
 // A number of lots.
-pub fn lots(word: &[u8]) -> Result<i64, LineFault>
+pub(crate) fn lots(word: &[u8]) -> Result<i64, LineFault>
     ensures { λ r. ⌜ r ≡ number-reply (lots-number (now (word .entry))) ⌝ }
 {
     match signed(word) {

@@ -20,7 +20,7 @@ pub struct PositionLine<'a> {
 
 impl<'a> PositionLine<'a> {
     // A position by its key, whose first four bytes are the member.
-    pub fn of(key: &'a Key, lots: i64) -> PositionLine<'a>
+    pub(crate) fn of(key: &'a Key, lots: i64) -> PositionLine<'a>
         ensures { λ r. ⌜ line-text r ≡ pair-text (content (now (key .entry)), lots) ⌝ }
     {
         let bytes = key.as_bytes();

@@ -5,9 +5,9 @@ ghost use Rattle.std.specs.declared.option.Option.the-variants.{Some};
 use std::fmt;
 
 #[derive(Clone, Copy)]
-pub struct Text<'a>(pub &'a [u8]);
+pub(crate) struct Text<'a>(pub(crate) &'a [u8]);
 
-pub impl fmt::Display for Text<'_> as TextDisplay {
+pub(crate) impl fmt::Display for Text<'_> as TextDisplay {
     ghost shown = { λ t. Some (encodes (deref (t .0))) };
 
     fn fmt<W: fmt::Write>(&self, f: &mut fmt::Formatter<W>) -> fmt::Result {

@@ -19,19 +19,19 @@ fn cut(text: &[u8]) -> (&[u8], Option<&[u8]>)
 
 // The part of a line that has not been taken as words, or none behind its last word.
 #[derive(Clone, Copy)]
-pub struct Words<'a> {
+pub(crate) struct Words<'a> {
     rest: Option<&'a [u8]>,
 }
 
 impl<'a> Words<'a> {
-    pub fn of(line: &'a [u8]) -> Words<'a>
+    pub(crate) fn of(line: &'a [u8]) -> Words<'a>
         ensures { λ r. ⌜ rest-words r ≡ split 32 (now (line .entry)) ⌝ }
     {
         Words { rest: Some(line) }
     }
 
     // Takes the next word. A word is missing where none is left, or where it is empty.
-    pub fn next(&mut self) -> Result<&'a [u8], LineFault>
+    pub(crate) fn next(&mut self) -> Result<&'a [u8], LineFault>
         ensures reply { λ r. ⌜ told r ≡ word-reply (rest-words (now (self .entry))) ⌝ }
         ensures after { λ _. ⌜ rest-words (now (self .exit)) ≡ later (rest-words (now (self .entry))) ⌝ }
     {
@@ -47,7 +47,7 @@ impl<'a> Words<'a> {
     }
 
     // Sees that no word is left.
-    pub fn end(&self) -> Result<(), LineFault>
+    pub(crate) fn end(&self) -> Result<(), LineFault>
         ensures { λ r. ⌜ r ≡ end-reply (rest-words (now (self .entry))) ⌝ }
     {
         match self.rest {

@@ -1,16 +1,12 @@
 -- Two byte strings, written one behind the other over a row of zeros. Assumes nothing.
 use mathlib.Core.Path.{_≡_, refl, sym, ap, subst, _∙_}
 use mathlib.Core.List.{List, [], _∷_, _++_}
-use Prim.Native.Nat.{ℕ, _+_, _-_, _≤_, _<_}
+use Prim.Native.Nat.{ℕ, _+_, _-_, _≤_}
 use native.Mathlib.Omega.{arith}
 use lib.ListN.{length, take, drop, replicate}
 use borrow.Rule.Slice.PartMut.{putMid, postOf}
 use Rattle.std.proofs.shelf.Lists.{append-assoc, length-append, length-drop, length-replicate, take-at, drop-at, drop-drop, drop-replicate}
-use Rattle.std.proofs.shelf.Tests.{le-ltb, lt-ltb}
-use Rattle.std.specs.declared.result.Result.the-variants.{Ok, Err}
-use Rattle.ordered.specs.declared.fault.IndexFault.the-variants.{KeyTooLong}
 use Rattle.ordered.specs.Order.{Padded}
-use Rattle.ordered.specs.Replies.{key-reply}
 
 -- the row has room for the second
 pub room-behind : (f front back zs : List ℕ) → f ≡ front → length zs ≡ 24 → length front + length back ≤ 24 → length front + length back ≤ length (f ++ postOf 0 (length front - 0) zs)
@@ -57,9 +53,3 @@ module _ (front back : List ℕ) (fits : length front + length back ≤ 24) wher
 
     pub row-content : take (length front + length back) bytes ≡ whole
     row-content = ap (take (length front + length back)) is ∙ take-at whole (replicate (24 - length whole) 0) (length front + length back) long
-
-  pub made-key : Ok (front ++ back) ≡ key-reply (front ++ back)
-  made-key = rw (le-ltb 24 (length whole) (omega (arith, long)))
-
-pub long-key : (front back : List ℕ) → 24 < length front + length back → Err KeyTooLong ≡ key-reply (front ++ back)
-long-key front back h = rw (lt-ltb 24 (length (front ++ back)) (omega (arith, length-append front back)))

@@ -63,4 +63,3 @@ module _ {V : Type 0} (k : List ℕ) where
     pub drop-other : (ps : Pairs V) → lookup (erased ps k) j ≡ lookup ps j
     drop-other [] = refl
     drop-other (p ∷ ps) = drop-other-by p ps (order (p .0) k) refl (drop-other ps)
-

@@ -1,13 +1,14 @@
 -- The laws of postings. Assumes nothing.
 use mathlib.Core.Path.{_≡_, refl, sym, ap, subst, _∙_}
-use mathlib.Core.Bool.{Bool, true, false, cond, _||_}
+use mathlib.Core.Bool.{Bool, true, false, cond, _||_, _&&_}
 use mathlib.Core.Logic.{⊎-elim}
-use mathlib.Core.List.{List, _++_}
+use mathlib.Core.List.{List, [], _∷_, _++_}
 use Prim.Native.Nat.{ℕ, suc}
 use native.Mathlib.Omega.{arith}
-use lib.IntN.{ℤ, pos, negsuc, _+ℤ_}
+use lib.IntN.{ℤ, pos, negsuc, _+ℤ_, +ℤ-idl, +ℤ-idr, +ℤ-comm, +ℤ-assoc}
 use Rattle.std.specs.Options.{valueOr}
 use Rattle.std.specs.Orderings.{isEq}
+use Rattle.std.specs.Results.{isOk}
 use Rattle.std.specs.declared.cmp.Ordering.{Ordering}
 use Rattle.std.specs.declared.cmp.Ordering.the-variants.{Less, Equal, Greater}
 use Rattle.std.specs.declared.option.Option.{Option}
@@ -25,7 +26,7 @@ use Rattle.codes.specs.Codes.{is-member, is-code}
 use Rattle.positions.specs.declared.fault.PositionFault.{PositionFault}
 use Rattle.positions.specs.declared.fault.PositionFault.the-variants.{BadMember, BadCode, BadLots, BeyondBounds}
 use Rattle.positions.specs.Posting.{flat, beyond, lots-of, total, settled, unless-refused, post-reply, posted}
-use Rattle.positions.specs.Laws.{Open, Laws}
+use Rattle.positions.specs.Laws.{Open, Ticket, after-all, credit, credited, Laws}
 
 flat-is : (lots : ℤ) → flat lots ≡ true → lots ≡ pos 0
 flat-is (pos n) e = ap pos (eqb-true n 0 e)
@@ -106,9 +107,42 @@ module _ (ps : Pairs ℤ) (limit : ℕ) (member code : List ℕ) (lots : ℤ) wh
   held-open : ascends (firsts ps) ≡ true → Open ps → Open (posted ps limit member code lots)
   held-open up ok k v g = open-by (post-reply ps limit member code lots) refl up ok k v (order k key) refl g
 
+  -- the list stays ascending
+  ascending : ascends (firsts ps) ≡ true → ascends (firsts (posted ps limit member code lots)) ≡ true
+  ascending up = by-reply (post-reply ps limit member code lots)
+    where
+      by-flat : (b : Bool) → ascends (firsts (cond b (erased ps key) (inserted ps key sum))) ≡ true
+      by-flat true = list-laws ℤ .drop-ascends ps key up
+      by-flat false = list-laws ℤ .put-ascends ps key sum up
+
+      by-reply : (r : Result ℤ PositionFault) → ascends (firsts (after r)) ≡ true
+      by-reply (Ok s) = by-flat (flat sum)
+      by-reply (Err f) = up
+
+  -- what the position of a key comes to
+  one-by : (r : Result ℤ PositionFault) → post-reply ps limit member code lots ≡ r → ascends (firsts ps) ≡ true → (k : List ℕ) (o : Ordering) → order k key ≡ o → valueOr (lookup (after r) k) (pos 0) ≡ cond (isOk r && isEq o) lots (pos 0) +ℤ valueOr (lookup ps k) (pos 0)
+  one-by (Err f) h up k o e = sym (+ℤ-idl (valueOr (lookup ps k) (pos 0)))
+  one-by (Ok s) h up k Less e = ap (λ x. valueOr x (pos 0)) (others-by (Ok s) k (unlike k Less e (λ q. true≢false (sym (ap isEq q))))) ∙ sym (+ℤ-idl (valueOr (lookup ps k) (pos 0)))
+  one-by (Ok s) h up k Equal e =
+      let is : k ≡ key = order-exact k key e in
+      ap (λ j. valueOr (lookup (settled ps key sum) j) (pos 0)) is ∙ settled-same ps key sum up (flat sum) refl
+      ∙ +ℤ-comm (valueOr (lookup ps key) (pos 0)) lots ∙ ap (λ j. lots +ℤ valueOr (lookup ps j) (pos 0)) (sym is)
+  one-by (Ok s) h up k Greater e = ap (λ x. valueOr x (pos 0)) (others-by (Ok s) k (unlike k Greater e (λ q. true≢false (sym (ap isEq q))))) ∙ sym (+ℤ-idl (valueOr (lookup ps k) (pos 0)))
+
+sums-from : (limit : ℕ) (ps : Pairs ℤ) (ts : List Ticket) (k : List ℕ) → ascends (firsts ps) ≡ true → valueOr (lookup (after-all limit ps ts) k) (pos 0) ≡ credited limit ps ts k +ℤ valueOr (lookup ps k) (pos 0)
+sums-from limit ps [] k up = sym (+ℤ-idl (valueOr (lookup ps k) (pos 0)))
+sums-from limit ps (t ∷ ts) k up =
+    let qs = posted ps limit (t .member) (t .code) (t .lots) in
+    let rest = credited limit qs ts k in
+    let one = one-by ps limit (t .member) (t .code) (t .lots) (post-reply ps limit (t .member) (t .code) (t .lots)) refl up k (order k (t .member ++ t .code)) refl in
+    let c = credit limit ps t k in
+    sums-from limit qs ts k (ascending ps limit (t .member) (t .code) (t .lots) up) ∙ ap (λ x. rest +ℤ x) one
+    ∙ sym (+ℤ-assoc rest c (valueOr (lookup ps k) (pos 0))) ∙ ap (λ x. x +ℤ valueOr (lookup ps k) (pos 0)) (+ℤ-comm rest c)
+
 pub posting-laws : Laws
 posting-laws = record {
   adds = λ ps limit member code lots s up h. adds ps limit member code lots s up h;
   others = λ ps limit member code lots k n. others ps limit member code lots k n;
   held-open = λ ps limit member code lots up ok. held-open ps limit member code lots up ok;
+  sums = λ limit ts member code. sums-from limit [] ts (member ++ code) refl ∙ +ℤ-idr (credited limit [] ts (member ++ code));
 }

@@ -1,4 +1,4 @@
-// What holds of every posting.
+// What holds of every posting, and of every list of postings.
 ghost use Rattle.positions.specs.Laws.{Laws};
 
 pub fn laws_stand() -> u8

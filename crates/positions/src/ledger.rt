@@ -25,7 +25,7 @@ const MAX_POSTING: u64 = 1_000_000_000;
 const MAX_POSITION: u64 = 1_000_000_000_000;
 
 // Whether a posting may have so many lots.
-pub fn is_posting(lots: i64) -> bool
+fn is_posting(lots: i64) -> bool
     ensures { λ r. ⌜ r ≡ not (flat lots || beyond 1000000000 lots) ⌝ }
 {
     lots != 0 && lots.unsigned_abs() <= MAX_POSTING
@@ -56,8 +56,31 @@ fn settle<I: OrderedIndex<i64>>(index: &mut I, key: &[u8], sum: i64) -> Result<i
     Ok(sum)
 }
 
+// Adds lots to a position, once all that was given is good.
+pub(crate) fn post<I: OrderedIndex<i64>>(
+    index: &mut I,
+    member: &[u8],
+    code: &[u8],
+    lots: i64,
+) -> Result<i64, PositionFault>
+    ensures reply { λ r. ⌜ r ≡ post-reply (pairs (now (index .entry))) (limit (now (index .entry))) (now (member .entry)) (now (code .entry)) lots ⌝ }
+    ensures after { λ _. ⌜ pairs (now (index .exit)) ≡ posted (pairs (now (index .entry))) (limit (now (index .entry))) (now (member .entry)) (now (code .entry)) lots ⌝ }
+    ensures limit { λ _. ⌜ limit (now (index .exit)) ≡ limit (now (index .entry)) ⌝ }
+{
+    let Some(member) = Member::new(member) else {
+        return Err(PositionFault::BadMember);
+    };
+    let Some(code) = Code::new(code) else {
+        return Err(PositionFault::BadCode);
+    };
+    if !is_posting(lots) {
+        return Err(PositionFault::BadLots);
+    }
+    add(index, member, code, lots)
+}
+
 // Adds lots to a position, which is let go where it comes to 0.
-pub fn add<I: OrderedIndex<i64>>(
+fn add<I: OrderedIndex<i64>>(
     index: &mut I,
     member: Member,
     code: Code,
@@ -85,7 +108,24 @@ fn end_of(member: Member) -> [u8; 4]
 }
 
 // Writes a member's positions into the rows.
-pub fn list<I: OrderedIndex<i64>>(
+pub(crate) fn list<I: OrderedIndex<i64>>(
+    index: &I,
+    member: &[u8],
+    keys: &mut [Key],
+    lots: &mut [i64],
+) -> Result<(usize, bool), PositionFault>
+    ensures reply { λ r. ⌜ r ≡ list-reply (pairs (now (index .entry))) (now (member .entry)) (length (now (keys .entry))) (length (now (lots .entry))) ⌝ }
+    ensures keys { λ r. ⌜ map content (now (keys .exit)) ≡ list-keys r (pairs (now (index .entry))) (now (member .entry)) (map content (now (keys .entry))) ⌝ }
+    ensures lots { λ r. ⌜ now (lots .exit) ≡ list-lots r (pairs (now (index .entry))) (now (member .entry)) (now (lots .entry)) ⌝ }
+{
+    let Some(member) = Member::new(member) else {
+        return Err(PositionFault::BadMember);
+    };
+    run(index, member, keys, lots)
+}
+
+// The run of the index that has a member's positions.
+fn run<I: OrderedIndex<i64>>(
     index: &I,
     member: Member,
     keys: &mut [Key],

@@ -1,6 +1,6 @@
 // The positions of all members, in an index that nothing else uses.
 ghost use mathlib.Core.Path.{_≡_};
-ghost use mathlib.Core.List.{[], map};
+ghost use mathlib.Core.List.{map};
 ghost use lib.ListN.{length};
 ghost use Rattle.std.specs.declared.result.Result.the-variants.{Ok, Err};
 ghost use Rattle.ordered.specs.Keys.{content};
@@ -9,8 +9,6 @@ ghost use Rattle.positions.specs.Posting.{post-reply, posted};
 ghost use Rattle.positions.specs.Listing.{list-reply, list-keys, list-lots};
 use crate::fault::PositionFault;
 use crate::ledger;
-use codes::Code;
-use codes::Member;
 use ordered::Key;
 use ordered::OrderedIndex;
 
@@ -22,7 +20,7 @@ pub struct Positions<I: OrderedIndex<i64> + Drop> {
 impl<I: OrderedIndex<i64> + Drop> Positions<I> {
     // Over an index that holds nothing.
     pub fn open(index: I) -> Result<Positions<I>, PositionFault>
-        ensures { λ r. ⌜ elim r [ Ok p ↦ (p .index ≡ index) × (pairs index ≡ []) | Err f ↦ (f ≡ NotEmpty) × (pairs index ≡ [] → ⊥) ] ⌝ }
+        ensures { λ r. ⌜ elim r [ Ok p ↦ (p .index ≡ index) × (length (pairs index) ≡ 0) | Err f ↦ (f ≡ NotEmpty) × (length (pairs index) ≡ 0 → ⊥) ] ⌝ }
     {
         if index.count() != 0 {
             return Err(PositionFault::NotEmpty);
@@ -36,16 +34,7 @@ impl<I: OrderedIndex<i64> + Drop> Positions<I> {
         ensures after { λ _. ⌜ pairs (now (self .exit) .index) ≡ posted (pairs (now (self .entry) .index)) (limit (now (self .entry) .index)) (now (member .entry)) (now (code .entry)) lots ⌝ }
         ensures limit { λ _. ⌜ limit (now (self .exit) .index) ≡ limit (now (self .entry) .index) ⌝ }
     {
-        let Some(member) = Member::new(member) else {
-            return Err(PositionFault::BadMember);
-        };
-        let Some(code) = Code::new(code) else {
-            return Err(PositionFault::BadCode);
-        };
-        if !ledger::is_posting(lots) {
-            return Err(PositionFault::BadLots);
-        }
-        ledger::add(&mut self.index, member, code, lots)
+        ledger::post(&mut self.index, member, code, lots)
     }
 
     // Writes a member's positions by code, as keys and lots, into the rows:
@@ -60,9 +49,6 @@ impl<I: OrderedIndex<i64> + Drop> Positions<I> {
         ensures keys { λ r. ⌜ map content (now (keys .exit)) ≡ list-keys r (pairs (now (self .entry) .index)) (now (member .entry)) (map content (now (keys .entry))) ⌝ }
         ensures lots { λ r. ⌜ now (lots .exit) ≡ list-lots r (pairs (now (self .entry) .index)) (now (member .entry)) (now (lots .entry)) ⌝ }
     {
-        let Some(member) = Member::new(member) else {
-            return Err(PositionFault::BadMember);
-        };
         ledger::list(&self.index, member, keys, lots)
     }
 }

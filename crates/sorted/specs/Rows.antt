@@ -26,9 +26,5 @@ module _ {V : Type 0} where
   abbrev pub Sound : Rows V → Type 0
   Sound r = Shape r × (ascends (firsts (pairsOf r)) ≡ true)
 
-  -- ready to hold, with no pairs yet
-  abbrev pub Fresh : Rows V → Type 0
-  Fresh r = (r .len ≡ 0) × Shape r
-
   pub rows-fit : (r : Rows V) → length (pairsOf r) ≤ places r
   rows-fit r = simp (length-zipped, length-map, length-take) (omega arith)

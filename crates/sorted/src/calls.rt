@@ -6,14 +6,14 @@ ghost use lib.ListN.{length};
 ghost use Rattle.ordered.specs.Keys.{content};
 ghost use Rattle.ordered.specs.Pairs.{inserted, erased};
 ghost use Rattle.ordered.specs.Replies.{get-reply, put-reply, drop-reply, run-reply, run-keys, run-values, changed, bound, long, long-end};
-ghost use Rattle.sorted.specs.Rows.{places, pairsOf, Sound};
+ghost use Rattle.sorted.specs.Rows.{places, pairsOf, Shape, Sound};
 use crate::rows::Rows;
 use crate::shift;
 use ordered::IndexFault;
 use ordered::Key;
 
 impl<V: Copy> Rows<'_, V> {
-    pub fn get(&self, key: &[u8]) -> Result<Option<V>, IndexFault>
+    pub(crate) fn get(&self, key: &[u8]) -> Result<Option<V>, IndexFault>
         requires { ⌜ Sound (now self) ⌝ }
         ensures { λ r. ⌜ r ≡ get-reply (pairsOf (now (self .entry))) (now (key .entry)) ⌝ }
     {
@@ -26,7 +26,7 @@ impl<V: Copy> Rows<'_, V> {
         }
     }
 
-    pub fn put(&mut self, key: &[u8], value: V) -> Result<Option<V>, IndexFault>
+    pub(crate) fn put(&mut self, key: &[u8], value: V) -> Result<Option<V>, IndexFault>
         requires { ⌜ Sound (now self) ⌝ }
         ensures sound { λ _. ⌜ Sound (now (self .exit)) ⌝ }
         ensures reply { λ r. ⌜ r ≡ put-reply (pairsOf (now (self .entry))) (places (now (self .entry))) (now (key .entry)) ⌝ }
@@ -46,7 +46,7 @@ impl<V: Copy> Rows<'_, V> {
         }
     }
 
-    pub fn drop(&mut self, key: &[u8]) -> Result<V, IndexFault>
+    pub(crate) fn drop(&mut self, key: &[u8]) -> Result<V, IndexFault>
         requires { ⌜ Sound (now self) ⌝ }
         ensures sound { λ _. ⌜ Sound (now (self .exit)) ⌝ }
         ensures reply { λ r. ⌜ r ≡ drop-reply (pairsOf (now (self .entry))) (now (key .entry)) ⌝ }
@@ -62,7 +62,14 @@ impl<V: Copy> Rows<'_, V> {
         }
     }
 
-    pub fn run(
+    pub(crate) fn count(&self) -> usize
+        requires { ⌜ Shape (now self) ⌝ }
+        ensures { λ r. ⌜ r ≡ length (pairsOf (now (self .entry))) ⌝ }
+    {
+        self.len
+    }
+
+    pub(crate) fn run(
         &self,
         first: &[u8],
         end: Option<&[u8]>,

@@ -1,5 +1,5 @@
 // Rows that passed the check of an opening. Only the check makes this type.
-ghost use Rattle.sorted.specs.Rows.{Fresh};
+ghost use Rattle.sorted.specs.Rows.{Shape};
 use crate::rows::Rows;
 
 mod check;
@@ -9,5 +9,5 @@ pub use check::OpenFault;
 #[derive(Drop)]
 pub struct Opening<'a, V> {
     pub(crate) rows: Rows<'a, V>,
-    ghost ok: { Fresh rows },
+    ghost ok: { Shape rows },
 }

@@ -8,7 +8,7 @@ use ordered::Key;
 use std::cmp::Ordering;
 
 // How many of the keys are before `key`: a binary search.
-pub fn place(keys: &[Key], key: &[u8]) -> usize
+pub(crate) fn place(keys: &[Key], key: &[u8]) -> usize
     requires { ⌜ ascends (map content (now keys)) ≡ true ⌝ }
     ensures { λ r. ⌜ Parted (now (key .entry)) (map content (now (keys .entry))) r ⌝ }
 {

@@ -14,15 +14,15 @@ use ordered::Key;
 use std::cmp::Ordering;
 
 #[derive(Drop)]
-pub struct Rows<'a, V> {
-    pub keys: &'a mut [Key],
-    pub values: &'a mut [V],
-    pub len: usize,
+pub(crate) struct Rows<'a, V> {
+    pub(crate) keys: &'a mut [Key],
+    pub(crate) values: &'a mut [V],
+    pub(crate) len: usize,
 }
 
 impl<V: Copy> Rows<'_, V> {
     // `Ok` of the place that holds the key, or else `Err` of the place where it belongs.
-    pub fn find(&self, key: &[u8]) -> Result<usize, usize>
+    pub(crate) fn find(&self, key: &[u8]) -> Result<usize, usize>
         requires { ⌜ Sound (now self) ⌝ }
         ensures { λ r. ⌜ Spot (pairsOf (now (self .entry))) (now (key .entry)) r ⌝ }
     {
@@ -49,7 +49,7 @@ impl<V: Copy> Rows<'_, V> {
     }
 
     // The places of the keys from `first` on and before `end`.
-    pub fn span(&self, first: &[u8], end: Option<&[u8]>) -> (usize, usize)
+    pub(crate) fn span(&self, first: &[u8], end: Option<&[u8]>) -> (usize, usize)
         requires { ⌜ Sound (now self) ⌝ }
         ensures { λ r. ⌜ Spanned (pairsOf (now (self .entry))) (now (first .entry)) (bound (end .entry)) (r .0) (r .1) ⌝ }
     {
@@ -59,7 +59,7 @@ impl<V: Copy> Rows<'_, V> {
         (from, to.max(from))
     }
 
-    pub fn value(&self, at: usize) -> V
+    pub(crate) fn value(&self, at: usize) -> V
         requires shape { ⌜ Shape (now self) ⌝ }
         requires within { ⌜ at < now self .len ⌝ }
         ensures { λ r. ⌜ r ≡ getD (seconds (pairsOf (now (self .entry)))) at r ⌝ }
@@ -69,7 +69,7 @@ impl<V: Copy> Rows<'_, V> {
     }
 
     // Adds a pair at `at`.
-    pub fn insert(&mut self, at: usize, key: Key, value: V)
+    pub(crate) fn insert(&mut self, at: usize, key: Key, value: V)
         requires shape { ⌜ Shape (now self) ⌝ }
         requires room { ⌜ now self .len < places (now self) ⌝ }
         requires within { ⌜ at ≤ now self .len ⌝ }
@@ -84,7 +84,7 @@ impl<V: Copy> Rows<'_, V> {
     }
 
     // Takes out the pair at `at`.
-    pub fn remove(&mut self, at: usize) -> V
+    pub(crate) fn remove(&mut self, at: usize) -> V
         requires shape { ⌜ Shape (now self) ⌝ }
         requires within { ⌜ at < now self .len ⌝ }
         ensures reply { λ r. ⌜ r ≡ getD (seconds (pairsOf (now (self .entry)))) at r ⌝ }
@@ -101,7 +101,7 @@ impl<V: Copy> Rows<'_, V> {
     }
 
     // Sets the value at `at`, and returns the old one.
-    pub fn replace(&mut self, at: usize, value: V) -> V
+    pub(crate) fn replace(&mut self, at: usize, value: V) -> V
         requires shape { ⌜ Shape (now self) ⌝ }
         requires within { ⌜ at < now self .len ⌝ }
         ensures reply { λ r. ⌜ r ≡ getD (seconds (pairsOf (now (self .entry)))) at r ⌝ }

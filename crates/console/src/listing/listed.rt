@@ -20,7 +20,7 @@ use std::fmt;
 
 impl Listing {
     // The positions of a member.
-    pub fn of<I: OrderedIndex<i64> + Drop>(
+    pub(crate) fn of<I: OrderedIndex<i64> + Drop>(
         positions: &Positions<I>,
         member: &[u8],
     ) -> Result<Listing, PositionFault>

@@ -29,10 +29,7 @@ impl OpenFault {
 const MAX_LIMIT: usize = 4096;
 
 impl<'a, V: Copy> Opening<'a, V> {
-    pub fn check(
-        keys: &'a mut [Key],
-        values: &'a mut [V],
-    ) -> Result<Opening<'a, V>, OpenFault>
+    pub fn check(keys: &'a mut [Key], values: &'a mut [V]) -> Result<Opening<'a, V>, OpenFault>
         ensures { λ r. ⌜ limits r ≡ opening (length (now (keys .entry))) (length (now (values .entry))) ⌝ }
     {
         if keys.len() == 0 || keys.len() > MAX_LIMIT || keys.len() != values.len() {

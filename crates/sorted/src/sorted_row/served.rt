@@ -14,7 +14,8 @@ impl<'a, V: Copy> SortedRow<'a, V> {
         ensures pairs { λ r. ⌜ pairsOf (r .rows) ≡ [] ⌝ }
         ensures limit { λ r. ⌜ places (r .rows) ≡ places (opening .entry .rows) ⌝ }
     {
-        let Opening { rows } = opening;
+        let Opening { mut rows } = opening;
+        rows.len = 0;
         SortedRow { rows }
     }
 }
@@ -41,7 +42,7 @@ pub impl<V: Copy> OrderedIndex<V> for SortedRow<'_, V> as SortedRowIndex {
     }
 
     fn count(&self) -> usize {
-        self.rows.len
+        self.rows.count()
     }
 
     fn run(

@@ -9,7 +9,7 @@ use Rattle.ordered.specs.Pairs.{firsts, seconds, between, under, written}
 use Rattle.ordered.specs.Replies.{run-reply}
 use Rattle.codes.specs.Texts.{member-text}
 use Rattle.positions.proofs.Runs.{end, own, listed}
-use Rattle.positions.proofs.ledger.list.Needs as need
+use Rattle.positions.proofs.ledger.run.Needs as need
 
 pub returns : need.returns
 returns g c =

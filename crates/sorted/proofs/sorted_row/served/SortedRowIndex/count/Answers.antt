@@ -1,6 +1,0 @@
-use mathlib.Core.Path.{sym}
-use Rattle.sorted.proofs.Spots.{pairs-long}
-use Rattle.sorted.proofs.sorted_row.served.SortedRowIndex.count.Needs as need
-
-pub returns : need.returns
-returns g c = sym (pairs-long (c .args .self .now .rows) (c .args .self .now .ok .0))
