@@ -84,16 +84,16 @@ impl Fault {
 pub impl From<LineFault> for Fault as FaultFromLine {
     ghost converts = { λ f r. r ≡ line f };
 
-    fn from(fault: LineFault) -> Fault {
-        Fault::Line(fault)
+    fn from(refusal: LineFault) -> Fault {
+        Fault::Line(refusal)
     }
 }
 
 pub impl From<PositionFault> for Fault as FaultFromPositions {
     ghost converts = { λ f r. r ≡ positions f };
 
-    fn from(fault: PositionFault) -> Fault {
-        Fault::Positions(fault)
+    fn from(refusal: PositionFault) -> Fault {
+        Fault::Positions(refusal)
     }
 }
 
@@ -101,7 +101,7 @@ pub impl From<PositionFault> for Fault as FaultFromPositions {
 pub impl From<IndexFault> for Fault as FaultFromIndex {
     ghost converts = { λ f r. r ≡ positions (Index f) };
 
-    fn from(fault: IndexFault) -> Fault {
-        Fault::Positions(PositionFault::Index(fault))
+    fn from(refusal: IndexFault) -> Fault {
+        Fault::Positions(PositionFault::Index(refusal))
     }
 }

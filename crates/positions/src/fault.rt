@@ -41,7 +41,7 @@ impl PositionFault {
 pub impl From<IndexFault> for PositionFault as PositionFaultFromIndex {
     ghost converts = { λ f r. r ≡ Index f };
 
-    fn from(fault: IndexFault) -> PositionFault {
-        PositionFault::Index(fault)
+    fn from(refusal: IndexFault) -> PositionFault {
+        PositionFault::Index(refusal)
     }
 }
