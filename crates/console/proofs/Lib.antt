@@ -9,3 +9,4 @@ mod Posts
 mod Feeds
 mod Numerals
 mod Plains
+mod Sessions

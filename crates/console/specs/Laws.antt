@@ -1,7 +1,7 @@
 -- What holds of lines, numbers and texts, told without the steps that read them. Assumes nothing.
 use mathlib.Core.Path.{_≡_}
 use mathlib.Core.Bool.{true, false, cond}
-use mathlib.Core.List.{List, [], _∷_, map}
+use mathlib.Core.List.{List, [], _∷_, _++_, map}
 use Prim.Native.Nat.{ℕ, _^_, _<_}
 use lib.Dec.{ltb, eqb}
 use lib.IntN.{ℤ, natAbs}
@@ -13,7 +13,9 @@ use Rattle.std.specs.declared.option.Option.the-variants.{Some, None}
 use Rattle.codes.specs.Codes.{is-member, is-code}
 use Rattle.console.specs.Words.{split}
 use Rattle.console.specs.Lines.{Reading, fed, pending}
+use Rattle.ordered.specs.Pairs.{Pairs}
 use Rattle.console.specs.Decimals.{lots-number}
+use Rattle.console.specs.Transcripts.{Standing, standing, next-line, answer-to, pairs-behind, transcript, after, ending}
 
 -- ---- the lines of an input: what stands before each newline, and what stands behind the last one, if anything does
 
@@ -34,7 +36,22 @@ abbrev pub answered : Reading → List ℕ → List (Option (List ℕ))
 answered r [] = cond (pending r) (r .0 ∷ []) []
 answered r (b ∷ input) = cond (eqb b 10) (fed r b .0 ∷ answered (fed r b) input) (answered (fed r b) input)
 
+-- ---- lines answered one after another: limit is the most positions that are held, count how many lines came before
+
+abbrev pub lines-text : ℕ → ℕ → Pairs ℤ → List (Option (List ℕ)) → List ℕ
+lines-text limit count pairs [] = []
+lines-text limit count pairs (l ∷ ls) = answer-to limit count pairs l ++ lines-text limit (next-line count) (pairs-behind limit pairs l) ls
+
+-- before the first byte of input, with no positions
+abbrev pub fresh : Standing
+fresh = standing (Some [], false) 0 []
+
 pub record Laws : Type 0 where
+  -- what is written of an input are the answers to its lines, in order
+  pub written : (limit : ℕ) (input : List ℕ) → transcript limit fresh input ++ ending limit (after limit fresh input) ≡ lines-text limit 0 [] (map kept (lines input))
+  -- and it is the same in whatever parts the input comes
+  pub parts : (limit : ℕ) (s : Standing) (a b : List ℕ) → transcript limit s (a ++ b) ≡ transcript limit s a ++ transcript limit (after limit s a) b
+  pub parts-after : (limit : ℕ) (s : Standing) (a b : List ℕ) → after limit s (a ++ b) ≡ after limit (after limit s a) b
   -- each line of the input is answered once, in order, and no other
   pub every-line : (input : List ℕ) → answered (Some [], false) input ≡ map kept (lines input)
   -- the words that are read as a number of lots are those that it is written as, with at most ten digits

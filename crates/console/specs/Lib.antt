@@ -10,4 +10,5 @@ pub mod Answers
 pub mod Positions
 pub mod Listings
 pub mod Sayings
+pub mod Transcripts
 pub mod Laws

@@ -11,7 +11,7 @@ use ordered::Key;
 use std::fmt;
 
 #[derive(Clone, Copy)]
-pub enum Answer {
+pub(crate) enum Answer {
     // The key of the position that was posted to, and what it came to.
     Posted { key: Key, lots: i64 },
     // A member's positions.
@@ -20,7 +20,7 @@ pub enum Answer {
     Refused { line: u64, fault: Fault },
 }
 
-pub impl fmt::Display for Answer as AnswerDisplay {
+pub(crate) impl fmt::Display for Answer as AnswerDisplay {
     ghost shown = { λ a. Some (answer-text a) };
 
     fn fmt<W: fmt::Write>(&self, f: &mut fmt::Formatter<W>) -> fmt::Result {

@@ -1,10 +1,10 @@
 // The console: answers lines in turn, over members' positions.
 ghost use mathlib.Core.Path.{_≡_};
-ghost use Prim.Native.Nat.{suc, _-_, _^_, min};
 ghost use Rattle.console.specs.Answers.{line-outcome, line-pairs, post-outcome, post-pairs, said};
 ghost use Rattle.console.specs.Decimals.{lots-number, number-reply};
 ghost use Rattle.console.specs.Parts.{told};
 ghost use Rattle.console.specs.Sayings.{answer-text, answers-text};
+ghost use Rattle.console.specs.Transcripts.{next-line};
 use crate::answer::Answer;
 use crate::command::Command;
 use crate::fault::Fault;
@@ -19,7 +19,7 @@ use ordered::OrderedIndex;
 use positions::Positions;
 
 #[derive(Drop)]
-pub struct Console<I: OrderedIndex<i64> + Drop> {
+pub(crate) struct Console<I: OrderedIndex<i64> + Drop> {
     positions: Positions<I>,
     // How many lines were answered.
     lines: u64,
@@ -27,7 +27,7 @@ pub struct Console<I: OrderedIndex<i64> + Drop> {
 
 impl<I: OrderedIndex<i64> + Drop> Console<I> {
     // Before the first line.
-    pub fn new(positions: Positions<I>) -> Console<I>
+    pub(crate) fn new(positions: Positions<I>) -> Console<I>
         ensures positions { λ r. ⌜ r .positions ≡ positions ⌝ }
         ensures lines { λ r. ⌜ r .lines ≡ 0 ⌝ }
     {
@@ -38,11 +38,11 @@ impl<I: OrderedIndex<i64> + Drop> Console<I> {
     }
 
     // Answers the next line, or what was wrong with reading it.
-    pub fn answer(&mut self, line: Result<&[u8], LineFault>) -> Answer
-        ensures text { λ r. ⌜ answer-text r ≡ said (now (self .exit) .lines) (line-outcome (pairs (now (self .entry) .positions .index)) (limit (now (self .entry) .positions .index)) (told (line .entry))) ⌝ }
+    pub(crate) fn answer(&mut self, line: Result<&[u8], LineFault>) -> Answer
+        ensures text { λ r. ⌜ answer-text r ≡ said (next-line (now (self .entry) .lines)) (line-outcome (pairs (now (self .entry) .positions .index)) (limit (now (self .entry) .positions .index)) (told (line .entry))) ⌝ }
         ensures pairs { λ _. ⌜ pairs (now (self .exit) .positions .index) ≡ line-pairs (pairs (now (self .entry) .positions .index)) (limit (now (self .entry) .positions .index)) (told (line .entry)) ⌝ }
         ensures limit { λ _. ⌜ limit (now (self .exit) .positions .index) ≡ limit (now (self .entry) .positions .index) ⌝ }
-        ensures lines { λ _. ⌜ now (self .exit) .lines ≡ min (suc (now (self .entry) .lines)) (2 ^ 64 - 1) ⌝ }
+        ensures lines { λ _. ⌜ now (self .exit) .lines ≡ next-line (now (self .entry) .lines) ⌝ }
     {
         self.lines = self.lines.saturating_add(1);
         match carry_out(&mut self.positions, line) {

@@ -6,7 +6,7 @@ ghost use lib.ListN.{length};
 mod feed;
 
 #[derive(Drop)]
-pub struct LineBuffer {
+pub(crate) struct LineBuffer {
     bytes: [u8; 80],
     len: usize,
     // More than 80 bytes came.

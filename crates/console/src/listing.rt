@@ -6,10 +6,10 @@ use ordered::Key;
 
 mod listed;
 
-pub use listed::ListingDisplay;
+pub(crate) use listed::ListingDisplay;
 
 #[derive(Clone, Copy)]
-pub struct Listing {
+pub(crate) struct Listing {
     keys: [Key; 16],
     lots: [i64; 16],
     count: usize,

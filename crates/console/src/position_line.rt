@@ -12,10 +12,10 @@ use ordered::Key;
 use std::fmt;
 
 #[derive(Clone, Copy)]
-pub struct PositionLine<'a> {
-    pub member: &'a [u8],
-    pub code: &'a [u8],
-    pub lots: i64,
+pub(crate) struct PositionLine<'a> {
+    pub(crate) member: &'a [u8],
+    pub(crate) code: &'a [u8],
+    pub(crate) lots: i64,
 }
 
 impl<'a> PositionLine<'a> {
@@ -29,7 +29,7 @@ impl<'a> PositionLine<'a> {
     }
 }
 
-pub impl fmt::Display for PositionLine<'_> as PositionLineDisplay {
+pub(crate) impl fmt::Display for PositionLine<'_> as PositionLineDisplay {
     ghost shown = { λ p. Some (position-text (deref (p .member)) (deref (p .code)) (p .lots)) };
 
     fn fmt<W: fmt::Write>(&self, f: &mut fmt::Formatter<W>) -> fmt::Result {

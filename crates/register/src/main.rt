@@ -1,7 +1,5 @@
 // The program: lines from standard input, answers to standard output.
-use console::AnswerDisplay;
-use console::Console;
-use console::LineBuffer;
+use console::Session;
 use ordered::Key;
 use ordered::OrderedIndex;
 use positions::Positions;
@@ -23,13 +21,12 @@ fn main(rt: LibcRuntime) -> Result<(), AnyError> {
     serve(&rt, SortedRow::new(opening))
 }
 
-// Answers the lines of standard input, each as its newline comes.
+// Answers the lines of standard input, over an index that holds nothing.
 fn serve<I: OrderedIndex<i64> + Drop>(rt: &LibcRuntime, index: I) -> Result<(), AnyError> {
     let Ok(positions) = Positions::open(index) else {
         return Err("the index of the positions holds something".into());
     };
-    let mut console = Console::new(positions);
-    let mut line = LineBuffer::new();
+    let mut session = Session::new(positions);
     let mut input = rt.stdin();
     let mut chunk = [0; 4096];
     for _ in 0..u64::MAX {
@@ -37,16 +34,12 @@ fn serve<I: OrderedIndex<i64> + Drop>(rt: &LibcRuntime, index: I) -> Result<(), 
         if count == 0 {
             break;
         }
-        for byte in &chunk[0..count] {
-            if line.feed(*byte) {
-                let answer = console.answer(line.line());
-                println!(rt, "{answer}")?;
-            }
-        }
+        let mut out = String::new(rt.alloc());
+        session.take(&chunk[0..count], &mut out)?;
+        print!(rt, "{out}")?;
     }
-    if line.pending() {
-        let answer = console.answer(line.line());
-        println!(rt, "{answer}")?;
-    }
+    let mut out = String::new(rt.alloc());
+    session.finish(&mut out)?;
+    print!(rt, "{out}")?;
     Ok(())
 }

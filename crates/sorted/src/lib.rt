@@ -7,6 +7,8 @@ mod shift;
 mod sorted_row;
 
 pub use opening::OpenFault;
+pub use opening::OpenFaultDebug;
+pub use opening::OpenFaultPartialEq;
 pub use opening::Opening;
 pub use sorted_row::SortedRow;
 pub use sorted_row::SortedRowIndex;

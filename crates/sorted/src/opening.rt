@@ -5,6 +5,8 @@ use crate::rows::Rows;
 mod check;
 
 pub use check::OpenFault;
+pub use check::OpenFaultDebug;
+pub use check::OpenFaultPartialEq;
 
 #[derive(Drop)]
 pub struct Opening<'a, V> {

@@ -15,7 +15,7 @@ const MAX_LINE: usize = 80;
 
 impl LineBuffer {
     // Before the first byte of the input.
-    pub fn new() -> LineBuffer
+    pub(crate) fn new() -> LineBuffer
         ensures { λ r. ⌜ reading r ≡ (Some [], false) ⌝ }
     {
         LineBuffer {
@@ -27,7 +27,7 @@ impl LineBuffer {
     }
 
     // Takes the next byte of the input. True where it ends the line.
-    pub fn feed(&mut self, byte: u8) -> bool
+    pub(crate) fn feed(&mut self, byte: u8) -> bool
         ensures reply { λ r. ⌜ r ≡ eqb byte 10 ⌝ }
         ensures after { λ _. ⌜ reading (now (self .exit)) ≡ fed (reading (now (self .entry))) byte ⌝ }
     {
@@ -65,7 +65,7 @@ impl LineBuffer {
     }
 
     // The line so far, unless more than 80 bytes of it came.
-    pub fn line(&self) -> Result<&[u8], LineFault>
+    pub(crate) fn line(&self) -> Result<&[u8], LineFault>
         ensures { λ r. ⌜ told r ≡ line-reply (reading (now (self .entry)) .0) ⌝ }
     {
         if self.over {
@@ -75,7 +75,7 @@ impl LineBuffer {
     }
 
     // Whether bytes of a line came whose newline did not.
-    pub fn pending(&self) -> bool
+    pub(crate) fn pending(&self) -> bool
         ensures { λ r. ⌜ r ≡ pending (reading (now (self .entry))) ⌝ }
     {
         !self.ended && (self.over || self.len > 0)

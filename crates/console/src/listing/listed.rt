@@ -41,7 +41,7 @@ impl Listing {
     }
 }
 
-pub impl fmt::Display for Listing as ListingDisplay {
+pub(crate) impl fmt::Display for Listing as ListingDisplay {
     ghost shown = { λ l. Some (listing-text (listing-pairs l)) };
 
     fn fmt<W: fmt::Write>(&self, f: &mut fmt::Formatter<W>) -> fmt::Result {

@@ -5,6 +5,3 @@ use Rattle.register.proofs.serve.Given as given
 -- the buffer keeps its length
 abbrev pub Inv-loop : given.InvT-loop
 Inv-loop g l = length (l .chunk) ≡ 4096
-
-abbrev pub Inv-loop-byte : given.InvT-loop-byte
-Inv-loop-byte g l = Unit {0}
