@@ -58,7 +58,7 @@ module _ (limit : ℕ) where
   -- one byte: next is what was read with it, and it ends the line or not
   one-byte : (t : Bool) (next : Reading) (count : ℕ) (pairs : Pairs ℤ) (input : List ℕ)
       → let s = cond t (standing next (next-line count) (pairs-behind limit pairs (next .0))) (standing next count pairs) in
-        cond t (answer-to limit count pairs (next .0)) [] ++ lines-text limit (s .count) (s .pairs) (answered (s .line) input) ≡ lines-text limit count pairs (cond t (next .0 ∷ answered next input) (answered next input))
+      cond t (answer-to limit count pairs (next .0)) [] ++ lines-text limit (s .count) (s .pairs) (answered (s .line) input) ≡ lines-text limit count pairs (cond t (next .0 ∷ answered next input) (answered next input))
   one-byte true next count pairs input = refl
   one-byte false next count pairs input = refl
 

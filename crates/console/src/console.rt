@@ -20,23 +20,12 @@ use positions::Positions;
 
 #[derive(Drop)]
 pub(crate) struct Console<I: OrderedIndex<i64> + Drop> {
-    positions: Positions<I>,
+    pub(crate) positions: Positions<I>,
     // How many lines were answered.
-    lines: u64,
+    pub(crate) lines: u64,
 }
 
 impl<I: OrderedIndex<i64> + Drop> Console<I> {
-    // Before the first line.
-    pub(crate) fn new(positions: Positions<I>) -> Console<I>
-        ensures positions { λ r. ⌜ r .positions ≡ positions ⌝ }
-        ensures lines { λ r. ⌜ r .lines ≡ 0 ⌝ }
-    {
-        Console {
-            positions,
-            lines: 0,
-        }
-    }
-
     // Answers the next line, or what was wrong with reading it.
     pub(crate) fn answer(&mut self, line: Result<&[u8], LineFault>) -> Answer
         ensures text { λ r. ⌜ answer-text r ≡ said (next-line (now (self .entry) .lines)) (line-outcome (pairs (now (self .entry) .positions .index)) (limit (now (self .entry) .positions .index)) (told (line .entry))) ⌝ }

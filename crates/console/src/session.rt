@@ -28,13 +28,24 @@ impl<I: OrderedIndex<i64> + Drop> Session<I> {
         ensures line { λ r. ⌜ reading (r .line) ≡ (Some [], false) ⌝ }
     {
         Session {
-            console: Console::new(positions),
+            console: Console {
+                positions,
+                lines: 0,
+            },
             line: LineBuffer::new(),
         }
     }
 
     // Takes a part of the input, and writes the answers to the lines that end in it.
     pub fn take(&mut self, input: &[u8], out: &mut String) -> fmt::Result
+        ensures text { λ r. ⌜ made r (λ _. string-bytes (now (out .exit)) ≡ string-bytes (now (out .entry)) ++ transcript (limit (now (self .entry) .console .positions .index)) (standing (reading (now (self .entry) .line)) (now (self .entry) .console .lines) (pairs (now (self .entry) .console .positions .index))) (now (input .entry))) ⌝ }
+        ensures after { λ r. ⌜ made r (λ _. standing (reading (now (self .exit) .line)) (now (self .exit) .console .lines) (pairs (now (self .exit) .console .positions .index)) ≡ after (limit (now (self .entry) .console .positions .index)) (standing (reading (now (self .entry) .line)) (now (self .entry) .console .lines) (pairs (now (self .entry) .console .positions .index))) (now (input .entry))) ⌝ }
+        ensures limit { λ _. ⌜ limit (now (self .exit) .console .positions .index) ≡ limit (now (self .entry) .console .positions .index) ⌝ }
+    {
+        self.take_bytes(input, out)
+    }
+
+    fn take_bytes(&mut self, input: &[u8], out: &mut String) -> fmt::Result
         ensures text { λ r. ⌜ made r (λ _. string-bytes (now (out .exit)) ≡ string-bytes (now (out .entry)) ++ transcript (limit (now (self .entry) .console .positions .index)) (standing (reading (now (self .entry) .line)) (now (self .entry) .console .lines) (pairs (now (self .entry) .console .positions .index))) (now (input .entry))) ⌝ }
         ensures after { λ r. ⌜ made r (λ _. standing (reading (now (self .exit) .line)) (now (self .exit) .console .lines) (pairs (now (self .exit) .console .positions .index)) ≡ after (limit (now (self .entry) .console .positions .index)) (standing (reading (now (self .entry) .line)) (now (self .entry) .console .lines) (pairs (now (self .entry) .console .positions .index))) (now (input .entry))) ⌝ }
         ensures limit { λ _. ⌜ limit (now (self .exit) .console .positions .index) ≡ limit (now (self .entry) .console .positions .index) ⌝ }

@@ -6,7 +6,6 @@ use ordered::Key;
 use ordered::OrderedIndex;
 use sorted::OpenFault;
 use sorted::OpenFaultDebug;
-use sorted::OpenFaultPartialEq;
 use sorted::Opening;
 use sorted::SortedRow;
 use sorted::SortedRowIndex;
@@ -57,10 +56,19 @@ fn run_within_bounds() -> Result<(), Fail> {
     check_eq(index.put(b"c", 3), Ok(None))?;
     let mut out = [Key::empty(); 1];
     let mut got = [9u8; 1];
-    check_eq(index.run(b"a", Some(b"c"), &mut out, &mut got), Ok((1, true)))?;
-    check_eq(index.run(b"b", Some(b"c"), &mut out, &mut got), Ok((1, false)))?;
+    check_eq(
+        index.run(b"a", Some(b"c"), &mut out, &mut got),
+        Ok((1, true)),
+    )?;
+    check_eq(
+        index.run(b"b", Some(b"c"), &mut out, &mut got),
+        Ok((1, false)),
+    )?;
     check_eq(got, [2])?;
-    check_eq(index.run(b"c", Some(b"a"), &mut out, &mut got), Ok((0, false)))?;
+    check_eq(
+        index.run(b"c", Some(b"a"), &mut out, &mut got),
+        Ok((0, false)),
+    )?;
     check_eq(index.run(b"a", None, &mut [], &mut []), Ok((0, true)))?;
     let unequal = index.run(b"a", None, &mut out, &mut []);
     check_eq(unequal, Err(IndexFault::UnequalRows))
@@ -87,10 +95,11 @@ fn long_keys() -> Result<(), Fail> {
 // Rows of no place, and rows that differ.
 #[test]
 fn refused_openings() -> Result<(), Fail> {
+    let mut no_keys: [Key; 0] = [];
+    let mut no_values: [u8; 0] = [];
+    check(Opening::check(&mut no_keys, &mut no_values).is_err())?;
     let mut keys = [Key::empty(); 2];
     let mut values = [0u8; 3];
-    check(Opening::check(&mut keys[0..0], &mut values[0..0]).is_err())?;
     check(Opening::check(&mut keys, &mut values).is_err())?;
-    check_eq(OpenFault::BadRows.number(), 1)?;
-    check(Opening::check(&mut keys, &mut values[0..2]).is_ok())
+    check_eq(OpenFault::BadRows.number(), 1)
 }

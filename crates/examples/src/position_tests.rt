@@ -38,7 +38,10 @@ fn refuses<I: OrderedIndex<i64> + Drop>(index: I) -> Result<(), Fail> {
     check_eq(book.post(b"kern", b"", 0), Err(PositionFault::BadMember))?;
     check_eq(book.post(b"KERN", b"", 0), Err(PositionFault::BadCode))?;
     check_eq(book.post(b"KERN", b"A", 0), Err(PositionFault::BadLots))?;
-    check_eq(book.post(b"KERN", b"A", 1_000_000_001), Err(PositionFault::BadLots))?;
+    check_eq(
+        book.post(b"KERN", b"A", 1_000_000_001),
+        Err(PositionFault::BadLots),
+    )?;
     check_eq(book.post(b"KERN", b"A", 1), Ok(1))?;
     check_eq(book.post(b"KERN", b"B", -1_000_000_000), Ok(-1_000_000_000))?;
     check_eq(book.post(b"KERN", b"C", 1), Err(index_full))?;

@@ -5,7 +5,7 @@ use Rattle.std.specs.Of.String.{string-bytes}
 use Rattle.console.specs.Buffers.{reading}
 use Rattle.console.specs.Transcripts.{standing}
 use Rattle.console.proofs.Sessions.{turn, done}
-use Rattle.console.proofs.session.Session.take.Needs as need
+use Rattle.console.proofs.session.Session.take_bytes.Needs as need
 
 pub loop-byte-again : need.loop-byte-again
 loop-byte-again g c =

@@ -4,7 +4,7 @@ use lib.ListN.{drop}
 use Rattle.std.specs.Of.String.{string-bytes}
 use Rattle.console.specs.Buffers.{reading}
 use Rattle.console.specs.Transcripts.{standing, transcript, after}
-use Rattle.console.proofs.session.Session.take.Given as given
+use Rattle.console.proofs.session.Session.take_bytes.Given as given
 
 -- what was written and what is to be written are the whole; and so for what the session comes to
 abbrev pub Inv-loop-byte : given.InvT-loop-byte
