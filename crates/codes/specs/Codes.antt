@@ -16,13 +16,19 @@ letter-or-digit b = (leb 65 b && leb b 90) || (leb 48 b && leb b 57)
 abbrev pub code-byte : ℕ → Bool
 code-byte b = letter-or-digit b || eqb b 45
 
+abbrev pub max-code : ℕ
+max-code = 20
+
+abbrev pub member-length : ℕ
+member-length = 4
+
 -- 1 to 20 of the code's bytes
 abbrev pub is-code : List ℕ → Bool
-is-code s = leb 1 (length s) && leb (length s) 20 && all-pass code-byte s
+is-code s = leb 1 (length s) && leb (length s) max-code && all-pass code-byte s
 
 -- four letters or digits
 abbrev pub is-member : List ℕ → Bool
-is-member s = eqb (length s) 4 && all-pass letter-or-digit s
+is-member s = eqb (length s) member-length && all-pass letter-or-digit s
 
 abbrev pub good-code : List ℕ → Option (List ℕ)
 good-code s = cond (is-code s) (Some s) None

@@ -12,7 +12,7 @@ use Rattle.std.specs.declared.option.Option.the-variants.{Some, None}
 use Rattle.std.proofs.shelf.Lists.{append-nil}
 use Rattle.std.proofs.shelf.Tests.{cases-lt, lt-ltb, le-ltb, ne-eqb}
 use Rattle.console.specs.Words.{split, onto}
-use Rattle.console.specs.Lines.{Reading, grown, begun, fed, any, pending}
+use Rattle.console.specs.Lines.{Reading, grown, begun, fed, any, pending, max-line}
 use Rattle.console.specs.Laws.{trimmed, lines, kept, answered}
 use Rattle.console.proofs.Cuts.{before, before-onto, starts}
 
@@ -32,31 +32,31 @@ trimmed-more w (b ∷ s) = at (eqb b 10) (split 10 s)
 -- one byte more
 kept-grown : (p : List ℕ) (b : ℕ) → grown (kept p) b ≡ kept (p ++ b ∷ [])
 kept-grown p b = ⊎-elim
-    (λ (l : 80 < length p).
-    let more : 80 < length (p ++ b ∷ []) = omega (arith, length-append p (b ∷ [])) in
-    rw (lt-ltb 80 (length p) l, lt-ltb 80 (length (p ++ b ∷ [])) more) refl)
-    (λ (l : length p ≤ 80). rw (le-ltb 80 (length p) l) (⊎-elim
-    (λ (h : length p < 80).
-    let fits : length (p ++ b ∷ []) ≤ 80 = omega (arith, length-append p (b ∷ [])) in
-    rw (lt-ltb (length p) 80 h, le-ltb 80 (length (p ++ b ∷ [])) fits) refl)
-    (λ (h : 80 ≤ length p).
-    let more : 80 < length (p ++ b ∷ []) = omega (arith, length-append p (b ∷ [])) in
-    rw (le-ltb (length p) 80 h, lt-ltb 80 (length (p ++ b ∷ [])) more) refl)
-    (cases-lt (length p) 80)))
-    (cases-lt 80 (length p))
+    (λ (l : max-line < length p).
+    let more : max-line < length (p ++ b ∷ []) = omega (arith, length-append p (b ∷ [])) in
+    rw (lt-ltb max-line (length p) l, lt-ltb max-line (length (p ++ b ∷ [])) more) refl)
+    (λ (l : length p ≤ max-line). rw (le-ltb max-line (length p) l) (⊎-elim
+    (λ (h : length p < max-line).
+    let fits : length (p ++ b ∷ []) ≤ max-line = omega (arith, length-append p (b ∷ [])) in
+    rw (lt-ltb (length p) max-line h, le-ltb max-line (length (p ++ b ∷ [])) fits) refl)
+    (λ (h : max-line ≤ length p).
+    let more : max-line < length (p ++ b ∷ []) = omega (arith, length-append p (b ∷ [])) in
+    rw (le-ltb (length p) max-line h, lt-ltb max-line (length (p ++ b ∷ [])) more) refl)
+    (cases-lt (length p) max-line)))
+    (cases-lt max-line (length p))
 
 -- what is left at the end
 kept-last : (p : List ℕ) → answered (kept p, false) [] ≡ map kept (trimmed (p ∷ []))
 kept-last p = ⊎-elim
-    (λ (l : 80 < length p).
+    (λ (l : max-line < length p).
     let some : length p ≡ 0 → ⊥ = λ e. omega arith in
-    rw (lt-ltb 80 (length p) l, ne-eqb (length p) 0 some) (rw (lt-ltb 80 (length p) l) refl))
-    (λ (l : length p ≤ 80). rw (le-ltb 80 (length p) l) (at (eqb (length p) 0) l))
-    (cases-lt 80 (length p))
+    rw (lt-ltb max-line (length p) l, ne-eqb (length p) 0 some) (rw (lt-ltb max-line (length p) l) refl))
+    (λ (l : length p ≤ max-line). rw (le-ltb max-line (length p) l) (at (eqb (length p) 0) l))
+    (cases-lt max-line (length p))
   where
-    at : (t : Bool) → length p ≤ 80 → cond (not t) (Some p ∷ []) [] ≡ map kept (cond t [] (p ∷ []))
+    at : (t : Bool) → length p ≤ max-line → cond (not t) (Some p ∷ []) [] ≡ map kept (cond t [] (p ∷ []))
     at true l = refl
-    at false l = sym (rw (le-ltb 80 (length p) l) refl)
+    at false l = sym (rw (le-ltb max-line (length p) l) refl)
 
 -- behind a newline a line begins
 afresh : (x : Option (List ℕ)) (input : List ℕ) → answered (x, true) input ≡ answered (Some [], false) input

@@ -18,10 +18,10 @@ use Rattle.codes.specs.Codes.{is-member}
 use Rattle.positions.specs.declared.fault.PositionFault.{PositionFault}
 use Rattle.positions.specs.declared.fault.PositionFault.the-variants.{BadMember}
 use Rattle.positions.specs.Listing.{list-reply}
-use Rattle.console.specs.Answers.{listing-reply}
+use Rattle.console.specs.Answers.{listing-reply, max-listed}
 
 -- what was written lies in front
-front : {A : Type 0} (row xs : List A) (n : ℕ) → length row ≡ 16 → n ≡ min 16 (length xs) → take n (written row xs) ≡ take 16 xs
+front : {A : Type 0} (row xs : List A) (n : ℕ) → length row ≡ max-listed → n ≡ min max-listed (length xs) → take n (written row xs) ≡ take max-listed xs
 front row xs n wide e =
     let long : length (take (length row) xs) ≡ n = length-take (length row) xs ∙ omega arith in
     take-at (take (length row) xs) (drop (length xs) row) n long ∙ ap (λ k. take k xs) wide
@@ -38,12 +38,12 @@ module _ (ps : Pairs ℤ) (member : List ℕ) (ks row : List Key) (vs old : List
   abbrev own : Pairs ℤ
   own = under member ps
 
-  pub gathered : length row ≡ 16 → length old ≡ 16 → Ok (n, more) ≡ list-reply ps member (length row) (length old) → map content ks ≡ written (map content row) (firsts own) → vs ≡ written old (seconds own) → Ok (zipped (map content (take n ks)) (take n vs)) ≡ listing-reply ps member
+  pub gathered : length row ≡ max-listed → length old ≡ max-listed → Ok (n, more) ≡ list-reply ps member (length row) (length old) → map content ks ≡ written (map content row) (firsts own) → vs ≡ written old (seconds own) → Ok (zipped (map content (take n ks)) (take n vs)) ≡ listing-reply ps member
   gathered wide even reply keys lots =
-      let r : Ok (n, more) ≡ cond (is-member member) (Ok (min 16 (length own), ltb 16 (length own))) (Err BadMember) = reply ∙ (λ i. list-reply ps member (wide i) (even i)) in
-      let t = told (is-member member) n more (ltb 16 (length own)) (min 16 (length own)) r in
-      let many : n ≡ min 16 (length (firsts own)) = t .1 ∙ ap (min 16) (sym (length-map own (λ p. p .0))) in
-      let many′ : n ≡ min 16 (length (seconds own)) = t .1 ∙ ap (min 16) (sym (length-map own (λ p. p .1))) in
-      let a : map content (take n ks) ≡ firsts (take 16 own) = sym (take-map content n ks) ∙ ap (take n) keys ∙ front (map content row) (firsts own) n (length-map row content ∙ wide) many ∙ take-map (λ p. p .0) 16 own in
-      let b : take n vs ≡ seconds (take 16 own) = ap (take n) lots ∙ front old (seconds own) n even many′ ∙ take-map (λ p. p .1) 16 own in
-      (λ i. Ok (zipped (a i) (b i))) ∙ ap Ok (together (take 16 own)) ∙ sym (rw (t .0) refl)
+      let r : Ok (n, more) ≡ cond (is-member member) (Ok (min max-listed (length own), ltb max-listed (length own))) (Err BadMember) = reply ∙ (λ i. list-reply ps member (wide i) (even i)) in
+      let t = told (is-member member) n more (ltb max-listed (length own)) (min max-listed (length own)) r in
+      let many : n ≡ min max-listed (length (firsts own)) = t .1 ∙ ap (min max-listed) (sym (length-map own (λ p. p .0))) in
+      let many′ : n ≡ min max-listed (length (seconds own)) = t .1 ∙ ap (min max-listed) (sym (length-map own (λ p. p .1))) in
+      let a : map content (take n ks) ≡ firsts (take max-listed own) = sym (take-map content n ks) ∙ ap (take n) keys ∙ front (map content row) (firsts own) n (length-map row content ∙ wide) many ∙ take-map (λ p. p .0) max-listed own in
+      let b : take n vs ≡ seconds (take max-listed own) = ap (take n) lots ∙ front old (seconds own) n even many′ ∙ take-map (λ p. p .1) max-listed own in
+      (λ i. Ok (zipped (a i) (b i))) ∙ ap Ok (together (take max-listed own)) ∙ sym (rw (t .0) refl)

@@ -16,6 +16,7 @@ use Rattle.ordered.specs.Pairs.{Pairs}
 use Rattle.console.specs.declared.listing.Listing.{Listing}
 use Rattle.console.specs.Texts.{position-text, pair-text, positions-text}
 use Rattle.console.specs.Listings.{listing-pairs}
+use Rattle.console.specs.Answers.{max-listed}
 
 -- a key, cut behind its fourth byte, or at its end
 cut-at : (k : List ℕ) (n : ℕ) → n ≡ min (length k) 4 → (take n k ≡ take 4 k) × (drop n k ≡ drop 4 k)
@@ -33,9 +34,9 @@ text-cut k front back n lots e f b = let c = cut-at k n e in λ i. position-text
 module _ (l : Listing) where
   pub held : length (listing-pairs l) ≡ l .count
   held =
-      let w : length (l .keys) ≡ 16 = l .wide in
-      let e : length (l .lots) ≡ 16 = l .even in
-      let s : l .count ≤ 16 = l .short in
+      let w : length (l .keys) ≡ max-listed = l .wide in
+      let e : length (l .lots) ≡ max-listed = l .even in
+      let s : l .count ≤ max-listed = l .short in
       let a = length-take-le (l .count) (l .keys) (omega arith) in
       let b = length-take-le (l .count) (l .lots) (omega arith) in
       let m = length-map (take (l .count) (l .keys)) content in
@@ -44,9 +45,9 @@ module _ (l : Listing) where
   -- k is the key at a place in use
   pub pair-at : (at : ℕ) (k : Key) → at < l .count → k ≡ getD (l .keys) at k → getD (listing-pairs l) at ([], pos 0) ≡ (content k, getD (l .lots) at (pos 0))
   pair-at at k h read =
-      let w : length (l .keys) ≡ 16 = l .wide in
-      let e : length (l .lots) ≡ 16 = l .even in
-      let s : l .count ≤ 16 = l .short in
+      let w : length (l .keys) ≡ max-listed = l .wide in
+      let e : length (l .lots) ≡ max-listed = l .even in
+      let s : l .count ≤ max-listed = l .short in
       let a = length-take-le (l .count) (l .keys) (omega arith) in
       let b = length-take-le (l .count) (l .lots) (omega arith) in
       let m = length-map (take (l .count) (l .keys)) content in

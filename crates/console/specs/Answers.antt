@@ -18,9 +18,13 @@ use Rattle.console.specs.Decimals.{lots-number, number-reply}
 use Rattle.console.specs.Commands.{Asked, post, list, line-command}
 use Rattle.console.specs.Texts.{position-text, listing-text, fault-text}
 
--- a member's positions, of which the console holds sixteen
+-- the most positions that are listed
+abbrev pub max-listed : ℕ
+max-listed = 16
+
+-- a member's positions, as many as are listed
 abbrev pub listing-reply : Pairs ℤ → List ℕ → Result (Pairs ℤ) PositionFault
-listing-reply ps member = cond (is-member member) (Ok (take 16 (under member ps))) (Err BadMember)
+listing-reply ps member = cond (is-member member) (Ok (take max-listed (under member ps))) (Err BadMember)
 
 -- ---- what a command comes to: the text that answers it, or why it is refused
 

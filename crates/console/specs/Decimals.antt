@@ -20,9 +20,13 @@ digit b = leb 48 b && leb b 57
 abbrev pub all-digits : List ℕ → Bool
 all-digits w = all-pass digit w
 
+-- the most digits that a number has
+abbrev pub max-digits : ℕ
+max-digits = 10
+
 -- one to ten digits, the first of them 0 only if it is the only one
 abbrev pub is-number : List ℕ → Bool
-is-number w = leb 1 (length w) && leb (length w) 10 && not (eqb (getD w 0 0) 48 && ltb 1 (length w)) && all-digits w
+is-number w = leb 1 (length w) && leb (length w) max-digits && not (eqb (getD w 0 0) 48 && ltb 1 (length w)) && all-digits w
 
 abbrev pub value : List ℕ → ℕ
 value w = folded (λ n b. n * 10 + (b - 48)) 0 w

@@ -12,9 +12,9 @@ use Rattle.std.specs.declared.option.Option.{Option}
 use Rattle.std.specs.declared.option.Option.the-variants.{Some, None}
 use Rattle.codes.specs.Codes.{is-member, is-code}
 use Rattle.console.specs.Words.{split}
-use Rattle.console.specs.Lines.{Reading, fed, pending}
+use Rattle.console.specs.Lines.{max-line, Reading, fed, pending}
 use Rattle.ordered.specs.Pairs.{Pairs}
-use Rattle.console.specs.Decimals.{lots-number}
+use Rattle.console.specs.Decimals.{max-digits, lots-number}
 use Rattle.console.specs.Transcripts.{Standing, standing, next-line, answer-to, pairs-behind, transcript, after, ending}
 
 -- ---- the lines of an input: what stands before each newline, and what stands behind the last one, if anything does
@@ -29,7 +29,7 @@ lines input = trimmed (split 10 input)
 
 -- a line of more than 80 bytes is not kept
 abbrev pub kept : List ℕ → Option (List ℕ)
-kept line = cond (ltb 80 (length line)) None (Some line)
+kept line = cond (ltb max-line (length line)) None (Some line)
 
 -- the lines that are answered as the bytes are fed one by one, and once they are at their end
 abbrev pub answered : Reading → List ℕ → List (Option (List ℕ))
@@ -55,8 +55,8 @@ pub record Laws : Type 0 where
   -- each line of the input is answered once, in order, and no other
   pub every-line : (input : List ℕ) → answered (Some [], false) input ≡ map kept (lines input)
   -- the words that are read as a number of lots are those that it is written as, with at most ten digits
-  pub lots-read : (lots : ℤ) → natAbs lots < 10 ^ 10 → lots-number (signed lots) ≡ Some lots
-  pub lots-written : (word : List ℕ) (lots : ℤ) → lots-number word ≡ Some lots → (word ≡ signed lots) × (natAbs lots < 10 ^ 10)
+  pub lots-read : (lots : ℤ) → natAbs lots < 10 ^ max-digits → lots-number (signed lots) ≡ Some lots
+  pub lots-written : (word : List ℕ) (lots : ℤ) → lots-number word ≡ Some lots → (word ≡ signed lots) × (natAbs lots < 10 ^ max-digits)
   -- members and codes are written as they are
   pub member-plain : (s : List ℕ) → is-member s ≡ true → encodes s ≡ s
   pub code-plain : (s : List ℕ) → is-code s ≡ true → encodes s ≡ s

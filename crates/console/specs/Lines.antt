@@ -12,13 +12,17 @@ use Rattle.console.specs.declared.fault.LineFault.{LineFault}
 use Rattle.console.specs.declared.fault.LineFault.the-variants.{TooLong}
 use Rattle.console.specs.Words.{split}
 
+-- the most bytes of a line
+abbrev pub max-line : ℕ
+max-line = 80
+
 -- a line being read: its bytes, unless there are more than 80, and whether its newline came
 abbrev pub Reading : Type 0
 Reading = Option (List ℕ) × Bool
 
 abbrev pub grown : Option (List ℕ) → ℕ → Option (List ℕ)
 grown None b = None
-grown (Some s) b = cond (ltb (length s) 80) (Some (s ++ b ∷ [])) None
+grown (Some s) b = cond (ltb (length s) max-line) (Some (s ++ b ∷ [])) None
 
 -- what was read of the line that the next byte belongs to
 abbrev pub begun : Reading → Option (List ℕ)

@@ -7,6 +7,7 @@ use lib.ListN.{length, take, drop}
 use lib.Utf8.{encodes}
 use Rattle.std.specs.Written.{decimal, signed}
 use Rattle.ordered.specs.Pairs.{Pairs}
+use Rattle.codes.specs.Codes.{member-length}
 use Rattle.console.specs.declared.fault.Fault.{Fault}
 use Rattle.console.specs.declared.fault.Layer.{Layer}
 use Rattle.console.specs.declared.fault.Layer.the-variants.{Line, Positions, Index}
@@ -17,7 +18,7 @@ position-text member code lots = codes "POS " ++ (encodes member ++ (codes " " +
 
 -- a position by its key, whose first four bytes are the member
 abbrev pub pair-text : List ℕ × ℤ → List ℕ
-pair-text p = position-text (take 4 (p .0)) (drop 4 (p .0)) (p .1)
+pair-text p = position-text (take member-length (p .0)) (drop member-length (p .0)) (p .1)
 
 abbrev pub positions-text : Pairs ℤ → List ℕ
 positions-text [] = []

@@ -21,4 +21,5 @@ pub use fault::Layer;
 pub use fault::LayerDisplay;
 pub use fault::LineFault;
 pub use laws::laws_stand;
+pub use listing::LIMIT;
 pub use session::Session;

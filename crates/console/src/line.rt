@@ -2,17 +2,18 @@
 ghost use mathlib.Core.Path.{_≡_};
 ghost use Prim.Native.Nat.{_≤_};
 ghost use lib.ListN.{length};
+ghost use Rattle.console.specs.Lines.{max-line};
 
 mod feed;
 
 #[derive(Drop)]
 pub(crate) struct LineBuffer {
-    bytes: [u8; 80],
+    bytes: [u8; LineBuffer::MAX],
     len: usize,
     // More than 80 bytes came.
     over: bool,
     // The line's newline came.
     ended: bool,
-    ghost full: { length bytes ≡ 80 },
-    ghost short: { len ≤ 80 },
+    ghost full: { length bytes ≡ max-line },
+    ghost short: { len ≤ max-line },
 }

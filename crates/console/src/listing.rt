@@ -1,19 +1,23 @@
-// A member's positions, as many as the console holds.
+// A member's positions, as many as are listed.
 ghost use mathlib.Core.Path.{_≡_};
 ghost use Prim.Native.Nat.{_≤_};
 ghost use lib.ListN.{length};
+ghost use Rattle.console.specs.Answers.{max-listed};
 use ordered::Key;
 
 mod listed;
 
 pub(crate) use listed::ListingDisplay;
 
+// The most positions that are listed: an index of this limit is listed whole.
+pub const LIMIT: usize = 16;
+
 #[derive(Clone, Copy)]
 pub(crate) struct Listing {
-    keys: [Key; 16],
-    lots: [i64; 16],
+    keys: [Key; LIMIT],
+    lots: [i64; LIMIT],
     count: usize,
-    ghost wide: { length keys ≡ 16 },
-    ghost even: { length lots ≡ 16 },
-    ghost short: { count ≤ 16 },
+    ghost wide: { length keys ≡ max-listed },
+    ghost even: { length lots ≡ max-listed },
+    ghost short: { count ≤ max-listed },
 }

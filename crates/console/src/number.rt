@@ -2,7 +2,7 @@
 ghost use mathlib.Core.Path.{_≡_};
 ghost use Prim.Native.Nat.{_^_, _<_};
 ghost use Rattle.std.specs.Options.{Cases};
-ghost use Rattle.console.specs.Decimals.{number, plain, negated, lots-number, number-reply};
+ghost use Rattle.console.specs.Decimals.{max-digits, number, plain, negated, lots-number, number-reply};
 use crate::fault::LineFault;
 
 // The most digits that a number has.
@@ -11,7 +11,7 @@ const MAX_DIGITS: usize = 10;
 // The value of a number without a sign, if it is one.
 fn unsigned(word: &[u8]) -> Option<u64>
     ensures value { λ r. ⌜ r ≡ number (now (word .entry)) ⌝ }
-    ensures small { λ r. ⌜ Cases r (Unit {0}) (λ n. n < 10 ^ 10) ⌝ }
+    ensures small { λ r. ⌜ Cases r (Unit {0}) (λ n. n < 10 ^ max-digits) ⌝ }
 {
     if word.is_empty() || word.len() > MAX_DIGITS || (word[0] == b'0' && word.len() > 1) {
         return None;

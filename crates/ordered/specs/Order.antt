@@ -11,6 +11,10 @@ use Rattle.std.specs.shelf.Lists.{All}
 use Rattle.std.specs.declared.cmp.Ordering.{Ordering}
 use Rattle.std.specs.declared.cmp.Ordering.the-variants.{Less, Equal, Greater}
 
+-- the most bytes that a key has
+abbrev pub max-key : ℕ
+max-key = 24
+
 abbrev pub order : List ℕ → List ℕ → Ordering
 order [] [] = Equal
 order [] (y ∷ ys) = Less
@@ -49,4 +53,4 @@ pub record Parted (k : List ℕ) (ks : List (List ℕ)) (p : ℕ) : Type 0 where
 
 -- the bytes behind len are 0
 abbrev pub Padded : List ℕ → ℕ → Type 0
-Padded bytes len = drop len bytes ≡ replicate (24 - len) 0
+Padded bytes len = drop len bytes ≡ replicate (max-key - len) 0

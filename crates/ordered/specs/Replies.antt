@@ -13,12 +13,13 @@ use Rattle.std.specs.declared.result.Result.the-variants.{Ok, Err}
 use Rattle.ordered.specs.declared.fault.IndexFault.{IndexFault}
 use Rattle.ordered.specs.declared.fault.IndexFault.the-variants.{KeyTooLong, Full, NotHeld, UnequalRows}
 use Rattle.ordered.specs.declared.key.Key.{Key}
+use Rattle.ordered.specs.Order.{max-key}
 use Rattle.ordered.specs.Keys.{content}
 use Rattle.ordered.specs.Pairs.{Pairs, lookup, firsts, seconds, between, written}
 
 -- more bytes than a key has
 abbrev pub long : List ℕ → Bool
-long k = ltb 24 (length k)
+long k = ltb max-key (length k)
 
 -- ---- the making of a key
 

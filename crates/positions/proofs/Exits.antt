@@ -20,7 +20,7 @@ use Rattle.ordered.specs.Replies.{long, held, get-reply, put-reply, drop-reply,
 use Rattle.codes.specs.Codes.{is-member, is-code}
 use Rattle.positions.specs.declared.fault.PositionFault.{PositionFault}
 use Rattle.positions.specs.declared.fault.PositionFault.the-variants.{BadCode, BadLots}
-use Rattle.positions.specs.Posting.{flat, beyond, total, settled, unless-refused, settle-reply, post-reply, posted}
+use Rattle.positions.specs.Posting.{flat, beyond, total, settled, unless-refused, settle-reply, post-reply, posted, max-position, max-posting}
 
 -- ---- lots
 
@@ -65,7 +65,7 @@ module _ (ps : Pairs ℤ) (member code : List ℕ) (lots : ℤ) (short : length 
       at None c h = absurd (true≢false (sym c ∙ ap flat (+ℤ-idl lots) ∙ some))
       at (Some v) c h = (v, h)
 
-  module _ (limit : ℕ) (good-member : is-member member ≡ true) (good-code : is-code code ≡ true) (good-lots : (flat lots || beyond 1000000000 lots) ≡ false) (bounded : beyond 1000000000000 sum ≡ false) where
+  module _ (limit : ℕ) (good-member : is-member member ≡ true) (good-code : is-code code ≡ true) (good-lots : (flat lots || beyond max-posting lots) ≡ false) (bounded : beyond max-position sum ≡ false) where
     -- the reply to a posting, once only the index may refuse
     abbrev last : Bool → Result ℤ PositionFault
     last b = cond b (Ok sum) (unless-refused sum (put-reply ps limit key))
@@ -74,7 +74,7 @@ module _ (ps : Pairs ℤ) (member code : List ℕ) (lots : ℤ) (short : length 
     narrowed = rw (good-member, good-code, good-lots, bounded) refl
 
     ended : (b : Bool) → flat sum ≡ b → cond b (unless-refused sum (drop-reply ps key)) (unless-refused sum (put-reply ps limit key)) ≡ last b
-    ended true e = ap (unless-refused sum) (dropped (or-parts (flat lots) (beyond 1000000000 lots) good-lots .0) e .1)
+    ended true e = ap (unless-refused sum) (dropped (or-parts (flat lots) (beyond max-posting lots) good-lots .0) e .1)
     ended false e = refl
 
     -- the reply and what is left, by what settling the sum replied and left
@@ -96,5 +96,5 @@ module _ (ps : Pairs ℤ) (limit : ℕ) (member code : List ℕ) (lots : ℤ) wh
   pub bad-code : is-member member ≡ true → is-code code ≡ false → Refuses BadCode
   bad-code m c = unchanged BadCode (rw (m, c) refl)
 
-  pub bad-lots : is-member member ≡ true → is-code code ≡ true → (flat lots || beyond 1000000000 lots) ≡ true → Refuses BadLots
+  pub bad-lots : is-member member ≡ true → is-code code ≡ true → (flat lots || beyond max-posting lots) ≡ true → Refuses BadLots
   bad-lots m c l = unchanged BadLots (rw (m, c, l) refl)

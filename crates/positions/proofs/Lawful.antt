@@ -25,7 +25,7 @@ use Rattle.ordered.proofs.Lawful.{list-laws}
 use Rattle.codes.specs.Codes.{is-member, is-code}
 use Rattle.positions.specs.declared.fault.PositionFault.{PositionFault}
 use Rattle.positions.specs.declared.fault.PositionFault.the-variants.{BadMember, BadCode, BadLots, BeyondBounds}
-use Rattle.positions.specs.Posting.{flat, beyond, lots-of, total, settled, unless-refused, post-reply, posted}
+use Rattle.positions.specs.Posting.{flat, beyond, lots-of, total, settled, unless-refused, post-reply, posted, max-position, max-posting}
 use Rattle.positions.specs.Laws.{Open, Ticket, after-all, credit, credited, Laws}
 
 flat-is : (lots : ℤ) → flat lots ≡ true → lots ≡ pos 0
@@ -70,8 +70,8 @@ module _ (ps : Pairs ℤ) (limit : ℕ) (member code : List ℕ) (lots : ℤ) wh
   accepted-by true true false false false (Ok o) s h = (cc, refl, refl, refl)
   accepted-by true true false false false (Err f) s h = let z : _≡_ {A = ℕ} 0 1 = cc in absurd (omega arith)
 
-  pub accepted : (s : ℤ) → post-reply ps limit member code lots ≡ Ok s → (s ≡ sum) × (beyond 1000000000000 sum ≡ false) × (is-member member ≡ true) × (is-code code ≡ true)
-  accepted s h = accepted-by (is-member member) (is-code code) (flat lots || beyond 1000000000 lots) (beyond 1000000000000 sum) (flat sum) (put-reply ps limit key) s h
+  pub accepted : (s : ℤ) → post-reply ps limit member code lots ≡ Ok s → (s ≡ sum) × (beyond max-position sum ≡ false) × (is-member member ≡ true) × (is-code code ≡ true)
+  accepted s h = accepted-by (is-member member) (is-code code) (flat lots || beyond max-posting lots) (beyond max-position sum) (flat sum) (put-reply ps limit key) s h
 
   -- what a reply r leaves
   abbrev after : Result ℤ PositionFault → Pairs ℤ
@@ -93,12 +93,12 @@ module _ (ps : Pairs ℤ) (limit : ℕ) (member code : List ℕ) (lots : ℤ) wh
   unlike k o e n q = n (sym e ∙ ap (λ j. order j key) q ∙ order-same key)
 
   -- a key is the posting's, or it is not
-  open-same : (s v : ℤ) → post-reply ps limit member code lots ≡ Ok s → ascends (firsts ps) ≡ true → lookup (settled ps key sum) key ≡ Some v → (flat v ≡ false) × (beyond 1000000000000 v ≡ false)
+  open-same : (s v : ℤ) → post-reply ps limit member code lots ≡ Ok s → ascends (firsts ps) ≡ true → lookup (settled ps key sum) key ≡ Some v → (flat v ≡ false) × (beyond max-position v ≡ false)
   open-same s v h up g =
       let x = settled-held ps key sum up v (flat sum) refl g in
-      (ap flat (x .0) ∙ x .1, ap (beyond 1000000000000) (x .0) ∙ accepted s h .1)
+      (ap flat (x .0) ∙ x .1, ap (beyond max-position) (x .0) ∙ accepted s h .1)
 
-  open-by : (r : Result ℤ PositionFault) → post-reply ps limit member code lots ≡ r → ascends (firsts ps) ≡ true → Open ps → (k : List ℕ) (v : ℤ) (o : Ordering) → order k key ≡ o → lookup (after r) k ≡ Some v → (flat v ≡ false) × (beyond 1000000000000 v ≡ false)
+  open-by : (r : Result ℤ PositionFault) → post-reply ps limit member code lots ≡ r → ascends (firsts ps) ≡ true → Open ps → (k : List ℕ) (v : ℤ) (o : Ordering) → order k key ≡ o → lookup (after r) k ≡ Some v → (flat v ≡ false) × (beyond max-position v ≡ false)
   open-by (Err f) h up ok k v o e g = ok k v g
   open-by (Ok s) h up ok k v Less e g = ok k v (sym (others-by (Ok s) k (unlike k Less e (λ q. true≢false (sym (ap isEq q))))) ∙ g)
   open-by (Ok s) h up ok k v Equal e g = open-same s v h up (ap (lookup (settled ps key sum)) (sym (order-exact k key e)) ∙ g)

@@ -10,11 +10,11 @@ use Rattle.std.specs.declared.option.Option.the-variants.{Some}
 use Rattle.std.specs.declared.result.Result.the-variants.{Ok}
 use Rattle.ordered.specs.Order.{order, ascends}
 use Rattle.ordered.specs.Pairs.{Pairs, firsts, lookup}
-use Rattle.positions.specs.Posting.{flat, beyond, lots-of, post-reply, posted}
+use Rattle.positions.specs.Posting.{flat, beyond, max-position, lots-of, post-reply, posted}
 
 -- every position held has lots, and at most 10^12 of them either way
 abbrev pub Open : Pairs ℤ → Type 0
-Open ps = (key : List ℕ) (lots : ℤ) → lookup ps key ≡ Some lots → (flat lots ≡ false) × (beyond 1000000000000 lots ≡ false)
+Open ps = (key : List ℕ) (lots : ℤ) → lookup ps key ≡ Some lots → (flat lots ≡ false) × (beyond max-position lots ≡ false)
 
 -- ---- lists of postings
 

@@ -23,6 +23,13 @@ flat lots = eqb (natAbs lots) 0
 abbrev pub beyond : ℕ → ℤ → Bool
 beyond most lots = ltb most (natAbs lots)
 
+-- the most lots of a posting, and of a position
+abbrev pub max-posting : ℕ
+max-posting = 1000000000
+
+abbrev pub max-position : ℕ
+max-position = 1000000000000
+
 -- the lots of a position: 0 where none is held
 abbrev pub lots-of : Pairs ℤ → List ℕ → List ℕ → ℤ
 lots-of ps member code = valueOr (lookup ps (member ++ code)) (pos 0)
@@ -48,8 +55,8 @@ abbrev pub post-reply : Pairs ℤ → ℕ → List ℕ → List ℕ → ℤ → 
 post-reply ps limit member code lots =
     cond (is-member member)
     (cond (is-code code)
-    (cond (flat lots || beyond 1000000000 lots) (Err BadLots)
-    (cond (beyond 1000000000000 (total ps member code lots)) (Err BeyondBounds)
+    (cond (flat lots || beyond max-posting lots) (Err BadLots)
+    (cond (beyond max-position (total ps member code lots)) (Err BeyondBounds)
     (cond (flat (total ps member code lots)) (Ok (total ps member code lots))
     (unless-refused (total ps member code lots) (put-reply ps limit (member ++ code))))))
     (Err BadCode))

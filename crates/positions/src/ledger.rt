@@ -9,7 +9,7 @@ ghost use Rattle.std.specs.declared.option.Option.the-variants.{Some, None};
 ghost use Rattle.ordered.specs.Keys.{content};
 ghost use Rattle.ordered.specs.Replies.{changed};
 ghost use Rattle.codes.specs.Texts.{member-text, code-text};
-ghost use Rattle.positions.specs.Posting.{flat, beyond, settled, settle-reply, post-reply, posted};
+ghost use Rattle.positions.specs.Posting.{flat, beyond, max-posting, max-position, settled, settle-reply, post-reply, posted};
 ghost use Rattle.positions.specs.Listing.{list-reply, list-keys, list-lots};
 use crate::fault::PositionFault;
 use crate::fault::PositionFaultFromIndex;
@@ -26,14 +26,14 @@ const MAX_POSITION: u64 = 1_000_000_000_000;
 
 // Whether a posting may have so many lots.
 fn is_posting(lots: i64) -> bool
-    ensures { λ r. ⌜ r ≡ not (flat lots || beyond 1000000000 lots) ⌝ }
+    ensures { λ r. ⌜ r ≡ not (flat lots || beyond max-posting lots) ⌝ }
 {
     lots != 0 && lots.unsigned_abs() <= MAX_POSTING
 }
 
 // What a position of `held` lots comes to, unless that is beyond the bounds.
 fn sum_of(held: i64, lots: i64) -> Option<i64>
-    ensures { λ r. ⌜ r ≡ cond (beyond 1000000000000 (held +ℤ lots)) None (Some (held +ℤ lots)) ⌝ }
+    ensures { λ r. ⌜ r ≡ cond (beyond max-position (held +ℤ lots)) None (Some (held +ℤ lots)) ⌝ }
 {
     let sum = held.checked_add(lots)?;
     if sum.unsigned_abs() > MAX_POSITION {
@@ -86,7 +86,7 @@ fn add<I: OrderedIndex<i64>>(
     code: Code,
     lots: i64,
 ) -> Result<i64, PositionFault>
-    requires { ⌜ (flat lots || beyond 1000000000 lots) ≡ false ⌝ }
+    requires { ⌜ (flat lots || beyond max-posting lots) ≡ false ⌝ }
     ensures reply { λ r. ⌜ r ≡ post-reply (pairs (now (index .entry))) (limit (now (index .entry))) (member-text member) (code-text code) lots ⌝ }
     ensures after { λ _. ⌜ pairs (now (index .exit)) ≡ posted (pairs (now (index .entry))) (limit (now (index .entry))) (member-text member) (code-text code) lots ⌝ }
     ensures limit { λ _. ⌜ limit (now (index .exit)) ≡ limit (now (index .entry)) ⌝ }

@@ -1,4 +1,5 @@
 // The program: lines from standard input, answers to standard output.
+use console::LIMIT;
 use console::Session;
 use ordered::Key;
 use ordered::OrderedIndex;
@@ -8,9 +9,6 @@ use sorted::SortedRow;
 use sorted::SortedRowIndex;
 use std::error::AnyError;
 use std::io::Read;
-
-// The most positions that are held.
-const LIMIT: usize = 16;
 
 fn main(rt: LibcRuntime) -> Result<(), AnyError> {
     let mut keys = [Key::empty(); LIMIT];

@@ -7,11 +7,11 @@ use Rattle.std.specs.declared.result.Result.the-variants.{Ok, Err}
 use Rattle.sorted.specs.declared.opening.Opening.{Opening}
 use Rattle.sorted.specs.declared.opening.check.OpenFault.{OpenFault}
 use Rattle.sorted.specs.declared.opening.check.OpenFault.the-variants.{BadRows}
-use Rattle.sorted.specs.Rows.{places}
+use Rattle.sorted.specs.Rows.{places, max-limit}
 
--- the rows' lengths are equal, and 1 to 4096
+-- the rows' lengths are equal, at least 1 and at most 4096
 abbrev pub openable : ℕ → ℕ → Bool
-openable keys values = leb 1 keys && leb keys 4096 && eqb keys values
+openable keys values = leb 1 keys && leb keys max-limit && eqb keys values
 
 -- the limit that rows of these lengths are opened with
 abbrev pub opening : ℕ → ℕ → Result ℕ OpenFault

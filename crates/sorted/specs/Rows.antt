@@ -13,6 +13,10 @@ use Rattle.ordered.specs.Order.{ascends}
 use Rattle.ordered.specs.Keys.{content}
 use Rattle.ordered.specs.Pairs.{Pairs, firsts}
 
+-- the most places that rows have
+abbrev pub max-limit : ℕ
+max-limit = 4096
+
 module _ {V : Type 0} where
   abbrev pub places : Rows V → ℕ
   places r = length (now (r .keys))
@@ -21,7 +25,7 @@ module _ {V : Type 0} where
   pairsOf r = zipped (map content (take (r .len) (now (r .keys)))) (take (r .len) (now (r .values)))
 
   abbrev pub Shape : Rows V → Type 0
-  Shape r = (r .len ≤ places r) × (length (now (r .values)) ≡ places r) × (1 ≤ places r) × (places r ≤ 4096)
+  Shape r = (r .len ≤ places r) × (length (now (r .values)) ≡ places r) × (1 ≤ places r) × (places r ≤ max-limit)
 
   abbrev pub Sound : Rows V → Type 0
   Sound r = Shape r × (ascends (firsts (pairsOf r)) ≡ true)

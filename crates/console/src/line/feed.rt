@@ -10,16 +10,16 @@ ghost use Rattle.console.specs.Parts.{told};
 use crate::fault::LineFault;
 use crate::line::LineBuffer;
 
-// The most bytes of a line before its newline.
-const MAX_LINE: usize = 80;
-
 impl LineBuffer {
+    // The most bytes of a line before its newline.
+    pub(crate) const MAX: usize = 80;
+
     // Before the first byte of the input.
     pub(crate) fn new() -> LineBuffer
         ensures { λ r. ⌜ reading r ≡ (Some [], false) ⌝ }
     {
         LineBuffer {
-            bytes: [0; 80],
+            bytes: [0; LineBuffer::MAX],
             len: 0,
             over: false,
             ended: false,
@@ -55,7 +55,7 @@ impl LineBuffer {
     fn push(&mut self, byte: u8)
         ensures { λ _. ⌜ reading (now (self .exit)) ≡ (grown (reading (now (self .entry)) .0) byte, reading (now (self .entry)) .1) ⌝ }
     {
-        if self.len < MAX_LINE {
+        if self.len < LineBuffer::MAX {
             let at = self.len;
             self.bytes[at] = byte;
             self.len = at + 1;

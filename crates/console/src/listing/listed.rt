@@ -9,6 +9,7 @@ ghost use Rattle.console.specs.Texts.{pair-text, listing-text};
 ghost use Rattle.console.specs.Answers.{listing-reply};
 ghost use Rattle.console.specs.Listings.{listing-pairs, listings};
 ghost use Rattle.console.specs.Positions.{line-text};
+use crate::listing::LIMIT;
 use crate::listing::Listing;
 use crate::position_line::PositionLine;
 use crate::position_line::PositionLineDisplay;
@@ -26,8 +27,8 @@ impl Listing {
     ) -> Result<Listing, PositionFault>
         ensures { λ r. ⌜ listings r ≡ listing-reply (pairs (now (positions .entry) .index)) (now (member .entry)) ⌝ }
     {
-        let mut keys = [Key::empty(); 16];
-        let mut lots = [0; 16];
+        let mut keys = [Key::empty(); LIMIT];
+        let mut lots = [0; LIMIT];
         let (count, _) = positions.list(member, &mut keys, &mut lots)?;
         Ok(Listing { keys, lots, count })
     }

@@ -4,7 +4,7 @@ ghost use mathlib.Core.Bool.{false};
 ghost use mathlib.Core.List.{[], _++_};
 ghost use Prim.Native.Nat.{_+_, _≤_};
 ghost use lib.ListN.{length};
-ghost use Rattle.ordered.specs.Order.{order};
+ghost use Rattle.ordered.specs.Order.{max-key, order};
 ghost use Rattle.ordered.specs.Keys.{content, Faithful};
 ghost use Rattle.ordered.specs.Replies.{long, contents, key-reply};
 use crate::fault::IndexFault;
@@ -20,7 +20,7 @@ impl Key {
         ensures { λ r. ⌜ content r ≡ [] ⌝ }
     {
         Key {
-            bytes: [0; 24],
+            bytes: [0; Key::MAX],
             len: 0,
         }
     }
@@ -43,12 +43,12 @@ impl Key {
     }
 
     fn filled(front: &[u8], back: &[u8]) -> Key
-        requires { ⌜ length (now front) + length (now back) ≤ 24 ⌝ }
+        requires { ⌜ length (now front) + length (now back) ≤ max-key ⌝ }
         ensures { λ r. ⌜ content r ≡ now (front .entry) ++ now (back .entry) ⌝ }
     {
         let at = front.len();
         let len = at + back.len();
-        let mut bytes = [0; 24];
+        let mut bytes = [0; Key::MAX];
         bytes[0..at].copy_from_slice(front);
         bytes[at..len].copy_from_slice(back);
         Key {
@@ -59,7 +59,7 @@ impl Key {
 
     pub fn as_bytes(&self) -> &[u8]
         ensures bytes { λ r. ⌜ now r ≡ content (now (self .entry)) ⌝ }
-        ensures short { λ r. ⌜ length (now r) ≤ 24 ⌝ }
+        ensures short { λ r. ⌜ length (now r) ≤ max-key ⌝ }
     {
         &self.bytes[0..self.len as usize]
     }
@@ -74,7 +74,7 @@ impl Key {
 // Whether two byte strings are too long for one key.
 fn too_long(front: &[u8], back: &[u8]) -> bool
     ensures test { λ r. ⌜ r ≡ long (now (front .entry) ++ now (back .entry)) ⌝ }
-    ensures fits { λ r. ⌜ (r ≡ false → length (now (front .entry)) + length (now (back .entry)) ≤ 24) ⌝ }
+    ensures fits { λ r. ⌜ (r ≡ false → length (now (front .entry)) + length (now (back .entry)) ≤ max-key) ⌝ }
 {
     front.len() > Key::MAX || back.len() > Key::MAX - front.len()
 }

@@ -13,7 +13,7 @@ use Rattle.ordered.specs.Pairs.{lookup}
 use Rattle.ordered.specs.Replies.{get-reply, changed}
 use Rattle.ordered.proofs.Outcomes.{key-made}
 use Rattle.codes.specs.Texts.{member-text, code-text}
-use Rattle.positions.specs.Posting.{total, settled, settle-reply}
+use Rattle.positions.specs.Posting.{total, settled, settle-reply, max-position}
 use Rattle.positions.proofs.Exits.{sum-told, found, replied, left}
 use Rattle.positions.proofs.ledger.add.Needs as need
 
@@ -35,7 +35,7 @@ returns g c =
     let was : held ≡ valueOr (lookup ps (m ++ d)) (pos 0) = c .unwrap-or-held .ensures ∙ ap (λ x. valueOr x (pos 0)) o in
     let fits-held : SFits w64 held = search needs in
     let fits-sum : SFits w64 sum = search needs in
-    let told = sum-told 1000000000000 sum (valueOr (lookup ps (m ++ d)) (pos 0)) lots _ _ (toZ-ofZ w64 held fits-held ∙ was) (toZ-ofZ w64 lots (c .fits .lots)) (c .in-Some .ensures tt) in
+    let told = sum-told max-position sum (valueOr (lookup ps (m ++ d)) (pos 0)) lots _ _ (toZ-ofZ w64 held fits-held ∙ was) (toZ-ofZ w64 lots (c .fits .lots)) (c .in-Some .ensures tt) in
     let passed : toZ w64 (ofZ w64 sum) ≡ total ps m d lots = toZ-ofZ w64 sum fits-sum ∙ told .1 in
     let r = c .settle .result in
     let reply : r ≡ settle-reply ps n (m ++ d) (total ps m d lots) = c .settle .ensures .reply ∙ (λ i. settle-reply ps n (key i) (passed i)) in

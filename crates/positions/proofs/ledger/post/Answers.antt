@@ -5,7 +5,7 @@ use mir.Val.{toZ, ofZ}
 use Rattle.std.proofs.shelf.Signed.{toZ-ofZ}
 use Rattle.std.proofs.shelf.Tests.{not-false}
 use Rattle.codes.proofs.Goods.{taken, refused}
-use Rattle.positions.specs.Posting.{flat, beyond, post-reply, posted}
+use Rattle.positions.specs.Posting.{flat, beyond, post-reply, posted, max-posting}
 use Rattle.positions.proofs.Exits.{bad-code, bad-lots}
 use Rattle.positions.proofs.ledger.post.Needs as need
 
@@ -17,7 +17,7 @@ returns-in-rest-new g c =
 pub returns-then-not-is-posting : need.returns-then-not-is-posting
 returns-then-not-is-posting g c =
     let lots = c .args .lots in
-    let bad : (flat lots || beyond 1000000000 lots) ≡ true = not-false _ (sym (c .if-not-is-posting .ensures tt ∙ ap (λ z. not (flat z || beyond 1000000000 z)) (toZ-ofZ w64 lots (c .fits .lots)))) in
+    let bad : (flat lots || beyond max-posting lots) ≡ true = not-false _ (sym (c .if-not-is-posting .ensures tt ∙ ap (λ z. not (flat z || beyond max-posting z)) (toZ-ofZ w64 lots (c .fits .lots)))) in
     let x = bad-lots (g .I·OrderedIndex .pairs (c .args .index .now)) (g .I·OrderedIndex .limit (c .args .index .now)) (c .args .member .now) (c .args .code .now) lots (taken _ _ _ (c .in-Some .ensures tt) .1) (taken _ _ _ (c .in-Some-new .ensures tt) .1) bad in
     record { reply = x .0; after = x .1; limit = refl }
 
