@@ -100,7 +100,7 @@ fn add<I: OrderedIndex<i64>>(
 }
 
 // The first byte string behind all that begin with the member.
-fn end_of(member: Member) -> [u8; 4]
+fn end_of(member: Member) -> [u8; Member::LEN]
     ensures { λ r. ⌜ r ≡ take 3 (member-text member) ++ suc (getD (member-text member) 3 0) ∷ [] ⌝ }
 {
     let bytes = member.as_bytes();
