@@ -1,12 +1,6 @@
-mod Cuts
-mod Takes
-mod Digits
-mod Keeps
 mod Spells
 mod Gathers
 mod Listed
 mod Posts
-mod Feeds
-mod Numerals
 mod Plains
 mod Sessions

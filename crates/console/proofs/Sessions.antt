@@ -9,10 +9,11 @@ use lib.ListN.{length, drop, getD}
 use Rattle.std.specs.declared.option.Option.{Option}
 use Rattle.std.proofs.shelf.Lists.{at-drop-more, at-drop-all, append-nil}
 use Rattle.ordered.specs.Pairs.{Pairs}
-use Rattle.console.specs.Lines.{Reading, fed, any}
-use Rattle.console.specs.Laws.{lines, kept, answered, lines-text, fresh}
+use Rattle.lines.specs.Lines.{Reading, fed, any}
+use Rattle.lines.specs.Laws.{lines, kept, answered}
+use Rattle.console.specs.Laws.{lines-text, fresh}
 use Rattle.console.specs.Transcripts.{Standing, standing, next-line, answer-to, pairs-behind, text-at, step, transcript, after, ending}
-use Rattle.console.proofs.Feeds.{every-line}
+use Rattle.lines.proofs.Feeds.{every-line}
 
 -- one byte more of s: o is what was written, and here where the session stands
 pub turn : (limit limit′ : ℕ) (here here′ : Standing) (s : List ℕ) (i : ℕ) (o o′ : List ℕ) → i < length s → limit′ ≡ limit → o′ ≡ o ++ text-at limit′ here (getD s i 0) → here′ ≡ step limit′ here (getD s i 0)

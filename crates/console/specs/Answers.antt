@@ -11,11 +11,11 @@ use Rattle.codes.specs.Codes.{is-member}
 use Rattle.positions.specs.declared.fault.PositionFault.{PositionFault}
 use Rattle.positions.specs.declared.fault.PositionFault.the-variants.{BadMember}
 use Rattle.positions.specs.Posting.{post-reply, posted}
-use Rattle.console.specs.declared.fault.LineFault.{LineFault}
+use Rattle.lines.specs.declared.fault.LineFault.{LineFault}
 use Rattle.console.specs.declared.fault.Fault.{Fault}
 use Rattle.console.specs.declared.fault.Fault.the-variants.{Line, Positions}
-use Rattle.console.specs.Decimals.{lots-number, number-reply}
-use Rattle.console.specs.Commands.{Asked, post, list, line-command}
+use Rattle.lines.specs.Decimals.{lots-number, number-reply}
+use Rattle.lines.specs.Commands.{Asked, post, list, line-command}
 use Rattle.console.specs.Texts.{position-text, listing-text, fault-text}
 
 -- the most positions that are listed

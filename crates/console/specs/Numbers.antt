@@ -1,19 +1,13 @@
--- The number of each fault of a line, and the layer that it comes from. Assumes nothing.
+-- The number of each fault that a line may meet, and the layer that it comes from. Assumes nothing.
 use Prim.Native.Nat.{ℕ}
 use Rattle.positions.specs.declared.fault.PositionFault.{PositionFault}
 use Rattle.positions.specs.declared.fault.PositionFault.the-variants.{BadMember, BadCode, BadLots, BeyondBounds, NotEmpty, Index}
 use Rattle.positions.specs.Numbers.{position-number}
-use Rattle.console.specs.declared.fault.LineFault.{LineFault}
-use Rattle.console.specs.declared.fault.LineFault.the-variants.{TooLong, Malformed, NotANumber}
+use Rattle.lines.specs.Numbers.{line-number}
 use Rattle.console.specs.declared.fault.Fault.{Fault}
 use Rattle.console.specs.declared.fault.Fault.the-variants.{Line, Positions}
 use Rattle.console.specs.declared.fault.Layer.{Layer}
 use Rattle.console.specs.declared.fault.Layer.the-variants as layer
-
-abbrev pub line-number : LineFault → ℕ
-line-number TooLong = 43
-line-number Malformed = 41
-line-number NotANumber = 42
 
 abbrev pub fault-number : Fault → ℕ
 fault-number (Line f) = line-number f

@@ -7,7 +7,7 @@ use lib.Dec.{eqb}
 use lib.IntN.{ℤ}
 use Rattle.std.specs.declared.option.Option.{Option}
 use Rattle.ordered.specs.Pairs.{Pairs}
-use Rattle.console.specs.Lines.{Reading, fed, pending, line-reply}
+use Rattle.lines.specs.Lines.{Reading, fed, pending, line-reply}
 use Rattle.console.specs.Answers.{line-outcome, line-pairs, said}
 
 -- the number of the next line, behind n lines: a 64-bit count

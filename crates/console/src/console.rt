@@ -1,19 +1,18 @@
 // The console: answers lines in turn, over members' positions.
 ghost use mathlib.Core.Path.{_≡_};
 ghost use Rattle.console.specs.Answers.{line-outcome, line-pairs, post-outcome, post-pairs, said};
-ghost use Rattle.console.specs.Decimals.{lots-number, number-reply};
-ghost use Rattle.console.specs.Parts.{told};
+ghost use Rattle.lines.specs.Decimals.{lots-number, number-reply};
+ghost use Rattle.lines.specs.Parts.{told};
 ghost use Rattle.console.specs.Sayings.{answer-text, answers-text};
 ghost use Rattle.console.specs.Transcripts.{next-line};
 use crate::answer::Answer;
-use crate::command::Command;
 use crate::fault::Fault;
 use crate::fault::FaultFromIndex;
 use crate::fault::FaultFromLine;
 use crate::fault::FaultFromPositions;
-use crate::fault::LineFault;
 use crate::listing::Listing;
-use crate::number;
+use lines::Command;
+use lines::LineFault;
 use ordered::Key;
 use ordered::OrderedIndex;
 use positions::Positions;
@@ -70,7 +69,7 @@ fn post<I: OrderedIndex<i64> + Drop>(
     ensures pairs { λ _. ⌜ pairs (now (positions .exit) .index) ≡ post-pairs (pairs (now (positions .entry) .index)) (limit (now (positions .entry) .index)) (now (member .entry)) (now (code .entry)) (number-reply (lots-number (now (lots .entry)))) ⌝ }
     ensures limit { λ _. ⌜ limit (now (positions .exit) .index) ≡ limit (now (positions .entry) .index) ⌝ }
 {
-    let lots = number::lots(lots)?;
+    let lots = lines::lots(lots)?;
     let lots = positions.post(member, code, lots)?;
     let key = Key::joined(member, code)?;
     Ok(Answer::Posted { key, lots })

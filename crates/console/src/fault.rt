@@ -3,34 +3,12 @@ ghost use mathlib.Core.Path.{_≡_};
 ghost use Rattle.std.specs.declared.option.Option.the-variants.{Some};
 ghost use Rattle.console.specs.declared.fault.Fault.the-variants.{Line as line, Positions as positions};
 ghost use Rattle.positions.specs.declared.fault.PositionFault.the-variants.{Index};
-ghost use Rattle.console.specs.Numbers.{line-number, fault-number, layer-of};
+ghost use Rattle.console.specs.Numbers.{fault-number, layer-of};
 ghost use Rattle.console.specs.Texts.{layer-text};
+use lines::LineFault;
 use ordered::IndexFault;
 use positions::PositionFault;
 use std::fmt;
-
-#[derive(Clone, Copy)]
-pub enum LineFault {
-    // More than 80 bytes.
-    TooLong,
-    // An unknown command, a wrong number of words, or other spacing than one space between words.
-    Malformed,
-    // A word that should be a number is none.
-    NotANumber,
-}
-
-impl LineFault {
-    // The number that the fault goes by.
-    pub fn number(self) -> u8
-        ensures { λ r. ⌜ r ≡ line-number self ⌝ }
-    {
-        match self {
-            LineFault::TooLong => 43,
-            LineFault::Malformed => 41,
-            LineFault::NotANumber => 42,
-        }
-    }
-}
 
 #[derive(Clone, Copy)]
 pub enum Layer {

@@ -1,4 +1,4 @@
-// What holds of lines, numbers and texts.
+// What holds of what is written.
 ghost use Rattle.console.specs.Laws.{Laws};
 
 pub fn laws_stand() -> u8

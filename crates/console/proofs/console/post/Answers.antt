@@ -7,7 +7,7 @@ use Rattle.std.proofs.shelf.Signed.{toZ-ofZ}
 use Rattle.ordered.specs.Keys.{content}
 use Rattle.positions.specs.Posting.{post-reply, posted}
 use Rattle.console.specs.Answers.{post-outcome, post-pairs}
-use Rattle.console.specs.Decimals.{lots-number, number-reply}
+use Rattle.lines.specs.Decimals.{lots-number, number-reply}
 use Rattle.console.specs.Texts.{pair-text}
 use Rattle.console.proofs.Posts.{never, answered}
 use Rattle.console.proofs.console.post.Needs as need

@@ -1,8 +1,6 @@
-use Rattle.console.proofs.Feeds.{every-line}
-use Rattle.console.proofs.Numerals.{lots-read, lots-written}
 use Rattle.console.proofs.Plains.{member-plain, code-plain}
 use Rattle.console.proofs.Sessions.{written, parts, parts-after}
 use Rattle.console.proofs.laws.laws_stand.Needs as need
 
 pub returns : need.returns
-returns c = record { written = written; parts = parts; parts-after = parts-after; every-line = every-line; lots-read = lots-read; lots-written = lots-written; member-plain = member-plain; code-plain = code-plain }
+returns c = record { written = written; parts = parts; parts-after = parts-after; member-plain = member-plain; code-plain = code-plain }

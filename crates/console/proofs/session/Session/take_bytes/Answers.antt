@@ -2,7 +2,7 @@ use mathlib.Core.Path.{_∙_}
 use Rattle.std.specs.declared.result.Result.the-variants.{Ok}
 use Rattle.std.proofs.shelf.Results.{made-from-err}
 use Rattle.std.specs.Of.String.{string-bytes}
-use Rattle.console.specs.Buffers.{reading}
+use Rattle.lines.specs.Buffers.{reading}
 use Rattle.console.specs.Transcripts.{standing}
 use Rattle.console.proofs.Sessions.{turn, done}
 use Rattle.console.proofs.session.Session.take_bytes.Needs as need

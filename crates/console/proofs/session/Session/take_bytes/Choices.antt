@@ -2,7 +2,7 @@ use mathlib.Core.Path.{_≡_}
 use mathlib.Core.List.{_++_}
 use lib.ListN.{drop}
 use Rattle.std.specs.Of.String.{string-bytes}
-use Rattle.console.specs.Buffers.{reading}
+use Rattle.lines.specs.Buffers.{reading}
 use Rattle.console.specs.Transcripts.{standing, transcript, after}
 use Rattle.console.proofs.session.Session.take_bytes.Given as given
 

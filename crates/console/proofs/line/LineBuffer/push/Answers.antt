@@ -1,9 +1,0 @@
-use mathlib.Core.Path.{ap}
-use native.Mathlib.Omega.{arith}
-use Rattle.console.proofs.Keeps.{kept-more}
-use Rattle.console.proofs.line.LineBuffer.push.Needs as need
-
-pub returns-then-self-lt-MAX : need.returns-then-self-lt-MAX
-returns-then-self-lt-MAX c =
-    let b = c .args .self .now in
-    ap (λ line. (line, b .ended)) (kept-more (b .bytes) (b .len) (c .args .byte) (b .over) (c .if-self-lt-MAX .taken) (b .full))

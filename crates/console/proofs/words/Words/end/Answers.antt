@@ -1,8 +1,0 @@
-use mathlib.Core.Path.{sym, ap, _∙_}
-use Rattle.console.specs.Words.{split, end-reply}
-use Rattle.console.specs.Parts.{part-words}
-use Rattle.console.proofs.Takes.{left-over}
-use Rattle.console.proofs.words.Words.end.Needs as need
-
-pub returns-in-Some : need.returns-in-Some
-returns-in-Some c = left-over (c .in-Some .field-0 .now) ∙ ap (λ r. end-reply (part-words r)) (sym (c .in-Some .is))
