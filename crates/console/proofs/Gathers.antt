@@ -1,7 +1,7 @@
 -- The positions that rows of sixteen places take. Assumes nothing.
-use mathlib.Core.Path.{_≡_, refl, sym, ap, subst, _∙_}
-use mathlib.Core.Bool.{Bool, true, false, cond}
-use mathlib.Core.List.{List, [], _∷_, _++_, map}
+use mathlib.Core.Path.{_≡_, refl, sym, ap, _∙_}
+use mathlib.Core.Bool.{Bool, true, false, cond, not}
+use mathlib.Core.List.{List, [], _∷_, map}
 use Prim.Native.Nat.{ℕ, _≤_, min}
 use native.Mathlib.Omega.{arith}
 use lib.Dec.{ltb}
@@ -10,7 +10,10 @@ use lib.ListN.{length, take, drop, length-take, length-map}
 use Rattle.std.specs.Finite.{zipped}
 use Rattle.std.specs.declared.result.Result.{Result}
 use Rattle.std.specs.declared.result.Result.the-variants.{Ok, Err}
-use Rattle.std.proofs.shelf.Lists.{take-at, take-map}
+use Rattle.std.specs.shelf.Lists.{kept-by}
+use Rattle.std.proofs.shelf.Filters.{length-kept-by-both}
+use Rattle.std.proofs.shelf.Lists.{take-at, take-all, take-map}
+use Rattle.ordered.specs.Order.{begins}
 use Rattle.ordered.specs.declared.key.Key.{Key}
 use Rattle.ordered.specs.Keys.{content}
 use Rattle.ordered.specs.Pairs.{Pairs, firsts, seconds, under, written}
@@ -47,3 +50,14 @@ module _ (ps : Pairs ℤ) (member : List ℕ) (ks row : List Key) (vs old : List
       let a : map content (take n ks) ≡ firsts (take max-listed own) = sym (take-map content n ks) ∙ ap (take n) keys ∙ front (map content row) (firsts own) n (length-map row content ∙ wide) many ∙ take-map (λ p. p .0) max-listed own in
       let b : take n vs ≡ seconds (take max-listed own) = ap (take n) lots ∙ front old (seconds own) n even many′ ∙ take-map (λ p. p .1) max-listed own in
       (λ i. Ok (zipped (a i) (b i))) ∙ ap Ok (together (take max-listed own)) ∙ sym (rw (t .0) refl)
+
+-- ---- where there are no more positions than are listed
+
+kept-fewer : {X : Type 0} (p : X → Bool) (xs : List X) → length (kept-by p xs) ≤ length xs
+kept-fewer p xs = let both = length-kept-by-both p (λ x. not (p x)) (λ _. refl) xs in omega arith
+
+pub listed-whole : (ps : Pairs ℤ) (member : List ℕ) → length ps ≤ max-listed → is-member member ≡ true → listing-reply ps member ≡ Ok (under member ps)
+listed-whole ps member few good =
+    let fewer = kept-fewer (λ p. begins member (p .0)) ps in
+    let fits : length (under member ps) ≤ max-listed = omega arith in
+    rw good (ap Ok (take-all max-listed (under member ps) fits))

@@ -1,13 +1,12 @@
 -- The lines of a listing. Assumes nothing.
-use mathlib.Core.Path.{_≡_, refl, sym, ap, subst, _∙_}
+use mathlib.Core.Path.{_≡_, refl, sym, ap, _∙_}
 use mathlib.Core.Logic.{⊎-elim}
 use mathlib.Core.List.{List, [], _∷_, _++_, map, append-assoc}
 use Prim.Native.Nat.{ℕ, _+_, _≤_, _<_, min}
 use native.Mathlib.Omega.{arith}
 use lib.IntN.{ℤ, pos}
 use lib.ListN.{length, take, drop, getD, length-map}
-use Rattle.std.specs.Finite.{zipped}
-use Rattle.std.proofs.shelf.Lists.{take-all, drop-all, take-more, getD-map, getD-take, length-take-le, append-nil}
+use Rattle.std.proofs.shelf.Lists.{take-all, drop-all, take-more, getD-map, getD-take, length-take-le}
 use Rattle.std.proofs.shelf.Pairs.{getD-zipped, length-zipped}
 use Rattle.std.proofs.shelf.Tests.{cases-lt}
 use Rattle.ordered.specs.declared.key.Key.{Key}

@@ -1,12 +1,12 @@
 -- Members and codes have bytes below 128 alone, which are written as they are. Assumes nothing.
-use mathlib.Core.Path.{_≡_, refl, ap, _∙_}
-use mathlib.Core.Bool.{Bool, true, _&&_, _||_}
+use mathlib.Core.Path.{_≡_, refl}
+use mathlib.Core.Bool.{Bool, true, _&&_}
 use mathlib.Core.List.{List, [], _∷_, _++_}
 use Prim.Native.Nat.{ℕ, _<_}
 use native.Mathlib.Omega.{arith}
 use lib.Dec.{leb, eqb}
 use lib.ListN.{length}
-use lib.Utf8.{encode, encodes}
+use lib.Utf8.{encodes}
 use Rattle.std.specs.shelf.Lawful.{all-pass}
 use Rattle.std.proofs.shelf.Ascii.{encode-ascii}
 use Rattle.std.proofs.shelf.Tests.{and-parts}

@@ -1,6 +1,6 @@
 -- The answer to a posting that was accepted. Assumes nothing.
-use mathlib.Core.Path.{_≡_, refl, sym, ap, subst, _∙_}
-use mathlib.Core.Bool.{Bool, true, _&&_}
+use mathlib.Core.Path.{_≡_, sym, ap, _∙_}
+use mathlib.Core.Bool.{true, _&&_}
 use mathlib.Core.List.{List, _++_}
 use Prim.Native.Nat.{ℕ, _≤_}
 use native.Mathlib.Omega.{arith}
@@ -13,7 +13,7 @@ use Rattle.std.proofs.shelf.Lists.{take-at, drop-at}
 use Rattle.std.proofs.shelf.Tests.{and-parts, leb-true, true≢false, le-ltb}
 use Rattle.ordered.specs.declared.fault.IndexFault.{IndexFault}
 use Rattle.ordered.specs.Pairs.{Pairs}
-use Rattle.ordered.specs.Replies.{long, key-reply}
+use Rattle.ordered.specs.Replies.{key-reply}
 use Rattle.ordered.proofs.Outcomes.{key-made, key-refused}
 use Rattle.codes.specs.Codes.{is-code, code-byte}
 use Rattle.positions.specs.Posting.{post-reply}

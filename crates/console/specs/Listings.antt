@@ -1,6 +1,5 @@
 -- What a listing holds. Assumes nothing.
-use mathlib.Core.List.{List, map}
-use Prim.Native.Nat.{ℕ}
+use mathlib.Core.List.{map}
 use lib.IntN.{ℤ}
 use lib.ListN.{take}
 use Rattle.std.specs.Finite.{zipped}

@@ -1,18 +1,18 @@
 -- The lines of an input, as its bytes are fed one by one. Assumes nothing.
-use mathlib.Core.Path.{_≡_, refl, sym, ap, subst, _∙_}
+use mathlib.Core.Path.{_≡_, refl, sym, ap, _∙_}
 use mathlib.Core.Bool.{Bool, true, false, cond, not}
 use mathlib.Core.Logic.{⊎-elim}
 use mathlib.Core.List.{List, [], _∷_, _++_, map}
 use Prim.Native.Nat.{ℕ, _+_, _≤_, _<_}
 use native.Mathlib.Omega.{arith}
-use lib.Dec.{ltb, eqb}
+use lib.Dec.{eqb}
 use lib.ListN.{length, length-append}
 use Rattle.std.specs.declared.option.Option.{Option}
-use Rattle.std.specs.declared.option.Option.the-variants.{Some, None}
+use Rattle.std.specs.declared.option.Option.the-variants.{Some}
 use Rattle.std.proofs.shelf.Lists.{append-nil}
 use Rattle.std.proofs.shelf.Tests.{cases-lt, lt-ltb, le-ltb, ne-eqb}
 use Rattle.lines.specs.Words.{split, onto}
-use Rattle.lines.specs.Lines.{Reading, grown, begun, fed, any, pending, max-line}
+use Rattle.lines.specs.Lines.{Reading, grown, fed, max-line}
 use Rattle.lines.specs.Laws.{trimmed, lines, kept, answered}
 use Rattle.lines.proofs.Cuts.{before, before-onto, starts}
 

@@ -2,11 +2,10 @@
 use borrow.Author.Needs.{needs}
 use mathlib.Core.Path.{_≡_, refl, sym, ap, subst, _∙_}
 use mathlib.Core.Bool.{Bool, true, false, cond, not, _&&_}
-use mathlib.Core.Logic.{⊎-elim}
 use mathlib.Core.List.{List, [], _∷_}
 use Prim.Native.Nat.{ℕ, zero, suc, _+_, _-_, _*_, _^_, _≤_, _<_}
 use native.Mathlib.Omega.{arith}
-use lib.Dec.{leb, ltb, eqb, lit<, lit≤}
+use lib.Dec.{leb, ltb, eqb, lit<}
 use lib.IntN.{ℤ, pos, negsuc, natAbs}
 use lib.ListN.{length, getD}
 use Rattle.std.specs.Iters.{folded}
@@ -17,12 +16,14 @@ use Rattle.std.proofs.shelf.Decimals.{digits-decimal, value-decimal, decimal-va
 use Rattle.std.proofs.shelf.Numerals.{Numerals, numerals-by-fold, value-short}
 use Rattle.std.proofs.shelf.Tests.{and-parts, leb-true, eqb-true, ne-eqb}
 use Rattle.std.proofs.shelf.Ways.{tells}
-use Rattle.lines.specs.Decimals.{digit, all-digits, is-number, value, number, negated, plain, lots-number}
+use Rattle.std.specs.Text.{asciiDigit}
+use Rattle.std.specs.shelf.Text.{allDigits}
+use Rattle.lines.specs.Decimals.{is-number, value, number, negated, plain, lots-number}
 
 abbrev on : ℕ → List ℕ → ℕ
 on n w = folded (λ m b. m * 10 + (b - 48)) n w
 
-own : Numerals (λ w. all-digits w ≡ true) value
+own : Numerals (λ w. allDigits w ≡ true) value
 own = numerals-by-fold _ (search needs) on (search needs)
 
 -- ---- what is-number says
@@ -37,7 +38,7 @@ taken w n false e = let z : _≡_ {A = ℕ} 0 1 = cc in absurd (omega arith)
 pub number-written : (w : List ℕ) (n : ℕ) → number w ≡ Some n → (w ≡ decimal n) × (n < 10 ^ 10)
 number-written w n e =
     let t = taken w n (is-number w) e in
-    let p = and-parts (shape w) (all-digits w) (t .0) in
+    let p = and-parts (shape w) (allDigits w) (t .0) in
     let q = and-parts (leb 1 (length w) && leb (length w) 10) (not (eqb (getD w 0 0) 48 && ltb 1 (length w))) (p .0) in
     let r = and-parts (leb 1 (length w)) (leb (length w) 10) (q .0) in
     let some : 0 < length w = leb-true 1 (length w) (r .0) in
@@ -57,11 +58,11 @@ number-read n small =
     let some : 0 < length w = decimal-some n fits in
     let short : length w ≤ 10 = length-decimal-le 10 n (lit< tt) small fits in
     let front : (eqb (getD w 0 0) 48 && ltb 1 (length w)) ≡ false = first n fits in
-    let all : all-digits w ≡ true = digits-decimal own n fits in
+    let all : allDigits w ≡ true = digits-decimal own n fits in
     let is : is-number w ≡ true = shaped w some short front all in
     ap (λ b. cond b (Some (value w)) None) is ∙ ap Some (value-decimal own n fits)
   where
-    shaped : (w : List ℕ) → 0 < length w → length w ≤ 10 → (eqb (getD w 0 0) 48 && ltb 1 (length w)) ≡ false → all-digits w ≡ true → is-number w ≡ true
+    shaped : (w : List ℕ) → 0 < length w → length w ≤ 10 → (eqb (getD w 0 0) 48 && ltb 1 (length w)) ≡ false → allDigits w ≡ true → is-number w ≡ true
     shaped w some short front all = rw (all, front) (grind (arith, tells))
 
     first : (n : ℕ) → n < 2 ^ 64 → (eqb (getD (decimal n) 0 0) 48 && ltb 1 (length (decimal n))) ≡ false
@@ -74,10 +75,10 @@ number-read n small =
 -- ---- lots
 
 -- digits begin with no minus
-no-minus : (w : List ℕ) → all-digits w ≡ true → getD w 0 0 ≡ 45 → ⊥
+no-minus : (w : List ℕ) → allDigits w ≡ true → getD w 0 0 ≡ 45 → ⊥
 no-minus [] all e = omega arith
 no-minus (b ∷ w) all e =
-    let d = and-parts (digit b) (all-digits w) all .0 in
+    let d = and-parts (asciiDigit b) (allDigits w) all .0 in
     let low : 48 ≤ b = leb-true 48 b (and-parts (leb 48 b) (leb b 57) d .0) in
     omega arith
 

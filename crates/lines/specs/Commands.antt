@@ -37,7 +37,7 @@ words (suc n) (w ∷ ws) = not (eqb (length w) 0) && words n ws
 abbrev pub only : Bool → Asked → Result Asked LineFault
 only b a = cond b (Ok a) (Err Malformed)
 
--- `P member code lots`, and `L member`, behind their first letter
+-- `P member code lots`, and `L member`, behind their first letter (bytes 80 and 76)
 abbrev pub post-command : List (List ℕ) → Result Asked LineFault
 post-command ws = only (words 3 ws) (post (getD ws 0 []) (getD ws 1 []) (getD ws 2 []))
 

@@ -1,12 +1,12 @@
 -- Numbers in a line. Assumes nothing.
-use mathlib.Core.Bool.{Bool, true, false, cond, not, _&&_}
+use mathlib.Core.Bool.{Bool, cond, not, _&&_}
 use mathlib.Core.List.{List, [], _∷_}
 use Prim.Native.Nat.{ℕ, zero, suc, _+_, _-_, _*_}
 use lib.Dec.{leb, ltb, eqb}
 use lib.IntN.{ℤ, pos, negsuc}
 use lib.ListN.{length, getD}
 use Rattle.std.specs.Iters.{folded}
-use Rattle.std.specs.shelf.Lawful.{all-pass}
+use Rattle.std.specs.shelf.Text.{allDigits}
 use Rattle.std.specs.declared.option.Option.{Option}
 use Rattle.std.specs.declared.option.Option.the-variants.{Some, None}
 use Rattle.std.specs.declared.result.Result.{Result}
@@ -14,19 +14,13 @@ use Rattle.std.specs.declared.result.Result.the-variants.{Ok, Err}
 use Rattle.lines.specs.declared.fault.LineFault.{LineFault}
 use Rattle.lines.specs.declared.fault.LineFault.the-variants.{NotANumber}
 
-abbrev pub digit : ℕ → Bool
-digit b = leb 48 b && leb b 57
-
-abbrev pub all-digits : List ℕ → Bool
-all-digits w = all-pass digit w
-
 -- the most digits that a number has
 abbrev pub max-digits : ℕ
 max-digits = 10
 
 -- one to ten digits, the first of them 0 only if it is the only one
 abbrev pub is-number : List ℕ → Bool
-is-number w = leb 1 (length w) && leb (length w) max-digits && not (eqb (getD w 0 0) 48 && ltb 1 (length w)) && all-digits w
+is-number w = leb 1 (length w) && leb (length w) max-digits && not (eqb (getD w 0 0) 48 && ltb 1 (length w)) && allDigits w
 
 abbrev pub value : List ℕ → ℕ
 value w = folded (λ n b. n * 10 + (b - 48)) 0 w

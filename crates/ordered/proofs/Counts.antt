@@ -1,21 +1,20 @@
 -- How many pairs there are after an insertion and after an erasure, and that each key stands once. Assumes nothing.
-use mathlib.Core.Path.{_≡_, refl, sym, ap, subst, _∙_}
-use mathlib.Core.Bool.{Bool, true, false, cond, true≢false}
+use mathlib.Core.Path.{_≡_, refl, sym, ap, _∙_}
+use mathlib.Core.Bool.{true, false, cond, true≢false}
 use mathlib.Core.List.{List, [], _∷_}
 use Prim.Native.Nat.{ℕ, zero, suc, _+_, _<_}
 use native.Mathlib.Omega.{arith}
-use lib.ListN.{length, getD, length-map}
+use lib.ListN.{length, getD}
 use Rattle.std.specs.Options.{isSome}
 use Rattle.std.specs.Orderings.{isLt}
 use Rattle.std.specs.declared.cmp.Ordering.{Ordering}
 use Rattle.std.specs.declared.cmp.Ordering.the-variants.{Less, Equal, Greater}
 use Rattle.std.specs.declared.option.Option.{Option}
 use Rattle.std.specs.declared.option.Option.the-variants.{Some, None}
-use Rattle.std.specs.shelf.Lists.{All}
 use Rattle.std.proofs.shelf.Elements.{all-weaker, all-getD}
-use Rattle.ordered.specs.Order.{order, by, ascends}
+use Rattle.ordered.specs.Order.{order, by}
 use Rattle.ordered.specs.Pairs.{Pairs, firsts, lookup, inserted, erased}
-use Rattle.ordered.proofs.Orders.{order-exact, order-same}
+use Rattle.ordered.proofs.Orders.{order-same}
 use Rattle.ordered.proofs.Ascents.{Ascending}
 use Rattle.ordered.proofs.Places.{past, lookup-past}
 

@@ -1,8 +1,7 @@
 -- The laws of the order, and of the list of pairs. Assumes nothing.
-use mathlib.Core.Path.{_≡_, subst, sym}
-use mathlib.Core.List.{List}
+use mathlib.Core.Path.{subst, sym}
 use Prim.Native.Nat.{_<_}
-use lib.ListN.{length, length-map}
+use lib.ListN.{length-map}
 use Rattle.ordered.specs.Pairs.{firsts}
 use Rattle.ordered.specs.Laws.{Laws, Order-laws}
 use Rattle.ordered.proofs.Orders.{order-same, order-exact, order-trans}

@@ -1,19 +1,14 @@
 -- Lookups after an insertion and after an erasure. Assumes nothing.
-use mathlib.Core.Path.{_≡_, refl, sym, ap, subst, _∙_}
-use mathlib.Core.Bool.{true}
+use mathlib.Core.Path.{_≡_, refl, sym, ap, _∙_}
 use mathlib.Core.List.{List, [], _∷_}
 use Prim.Native.Nat.{ℕ}
 use Rattle.std.specs.declared.cmp.Ordering.{Ordering}
 use Rattle.std.specs.declared.cmp.Ordering.the-variants.{Less, Equal, Greater}
-use Rattle.std.specs.declared.option.Option.{Option}
 use Rattle.std.specs.declared.option.Option.the-variants.{Some, None}
-use Rattle.std.specs.Orderings.{reversed}
-use Rattle.std.specs.shelf.Lists.{All}
-use Rattle.std.proofs.shelf.Elements.{all-weaker}
-use Rattle.ordered.specs.Order.{order, by, ascends}
+use Rattle.ordered.specs.Order.{order, by}
 use Rattle.ordered.specs.Pairs.{Pairs, firsts, lookup, inserted, erased}
-use Rattle.ordered.proofs.Ascents.{Ascending, ascending-from}
-use Rattle.ordered.proofs.Orders.{order-flip, order-exact, order-same}
+use Rattle.ordered.proofs.Ascents.{Ascending}
+use Rattle.ordered.proofs.Orders.{order-exact, order-same}
 use Rattle.ordered.proofs.Places.{lookup-past, later-past}
 
 skip : {A : Type 0} (o : Ordering) (x y : A) → (o ≡ Equal → ⊥) → by o x y x ≡ x

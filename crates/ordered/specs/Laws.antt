@@ -1,13 +1,13 @@
 -- What holds of the list of pairs and of what the calls make of it, in the words of keys and values. Assumes nothing.
 use mathlib.Core.Path.{_≡_}
-use mathlib.Core.Bool.{true, false, cond}
+use mathlib.Core.Bool.{true, cond}
 use mathlib.Core.List.{List, [], _∷_, _++_}
 use Prim.Native.Nat.{ℕ, suc, _+_, _<_}
 use lib.ListN.{length, getD}
 use Rattle.std.specs.Options.{isSome}
 use Rattle.std.specs.declared.cmp.Ordering.the-variants.{Less, Equal}
 use Rattle.std.specs.declared.option.Option.the-variants.{Some, None}
-use Rattle.ordered.specs.Order.{order, ascends, begins}
+use Rattle.ordered.specs.Order.{order, ascends}
 use Rattle.ordered.specs.Pairs.{Pairs, firsts, lookup, inserted, erased, between, under}
 
 -- byte by byte, a string before its own extensions: a strict order of all strings

@@ -4,4 +4,3 @@ pub mod Numbers
 pub mod Pairs
 pub mod Replies
 pub mod Laws
-pub mod Examples

@@ -1,9 +1,9 @@
 -- What each call of an ordered index replies and leaves, for every input. Assumes nothing.
 --     ps is the list of pairs that the index holds, limit the most that it may hold
-use mathlib.Core.Bool.{Bool, true, false, cond, _&&_, _||_}
+use mathlib.Core.Bool.{Bool, true, false, cond, _||_}
 use mathlib.Core.List.{List}
 use Prim.Native.Nat.{ℕ, min}
-use lib.Dec.{leb, ltb, eqb}
+use lib.Dec.{ltb, eqb}
 use lib.ListN.{length}
 use denote.Ref.{RefT}
 use Rattle.std.specs.declared.option.Option.{Option}

@@ -9,5 +9,4 @@ pub use fault::IndexFaultDebug;
 pub use fault::IndexFaultPartialEq;
 pub use index::OrderedIndex;
 pub use key::Key;
-pub use key::keys_stand;
 pub use laws::laws_stand;

@@ -1,21 +1,18 @@
 -- What a posting makes of what the index replies. Assumes nothing.
-use mathlib.Core.Path.{_≡_, refl, sym, ap, subst, _∙_}
+use mathlib.Core.Path.{_≡_, refl, sym, ap, _∙_}
 use mathlib.Core.Bool.{Bool, true, false, cond, _||_}
 use mathlib.Core.List.{List, _++_}
-use Prim.Native.Nat.{ℕ, zero, suc, _≤_}
+use Prim.Native.Nat.{ℕ, _≤_}
 use native.Mathlib.Omega.{arith}
-use lib.Dec.{eqb}
-use lib.IntN.{ℤ, pos, negsuc, _+ℤ_, +ℤ-idl}
+use lib.IntN.{ℤ, pos, _+ℤ_, +ℤ-idl}
 use lib.ListN.{length}
 use Rattle.std.specs.Options.{valueOr}
 use Rattle.std.specs.declared.option.Option.{Option}
 use Rattle.std.specs.declared.option.Option.the-variants.{Some, None}
 use Rattle.std.specs.declared.result.Result.{Result}
 use Rattle.std.specs.declared.result.Result.the-variants.{Ok, Err}
-use Rattle.std.proofs.shelf.Tests.{le-ltb, ne-eqb, true≢false, or-parts, cases-bool}
-use Rattle.ordered.specs.declared.fault.IndexFault.{IndexFault}
-use Rattle.ordered.specs.declared.fault.IndexFault.the-variants.{KeyTooLong}
-use Rattle.ordered.specs.Pairs.{Pairs, lookup, inserted, erased}
+use Rattle.std.proofs.shelf.Tests.{le-ltb, true≢false, or-parts}
+use Rattle.ordered.specs.Pairs.{Pairs, lookup}
 use Rattle.ordered.specs.Replies.{long, held, get-reply, put-reply, drop-reply, changed}
 use Rattle.codes.specs.Codes.{is-member, is-code}
 use Rattle.positions.specs.declared.fault.PositionFault.{PositionFault}
@@ -23,14 +20,6 @@ use Rattle.positions.specs.declared.fault.PositionFault.the-variants.{BadCode,
 use Rattle.positions.specs.Posting.{flat, beyond, total, settled, unless-refused, settle-reply, post-reply, posted, max-position, max-posting}
 
 -- ---- lots
-
-pub flat-yes : (lots : ℤ) → lots ≡ pos 0 → flat lots ≡ true
-flat-yes lots e = ap flat e
-
-pub flat-not : (lots : ℤ) → (lots ≡ pos 0 → ⊥) → flat lots ≡ false
-flat-not (pos zero) n = absurd (n refl)
-flat-not (pos (suc a)) n = ne-eqb (suc a) 0 (λ e. omega arith)
-flat-not (negsuc a) n = ne-eqb (suc a) 0 (λ e. omega arith)
 
 -- a sum that is told is within the bounds
 pub sum-told : (most : ℕ) (sum held lots held′ lots′ : ℤ) → held′ ≡ held → lots′ ≡ lots → Some sum ≡ cond (beyond most (held′ +ℤ lots′)) None (Some (held′ +ℤ lots′)) → (beyond most (held +ℤ lots) ≡ false) × (sum ≡ held +ℤ lots)

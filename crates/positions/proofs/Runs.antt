@@ -1,6 +1,6 @@
 -- A member's positions as a run of the index. Assumes nothing.
-use mathlib.Core.Path.{_≡_, refl, sym, ap, subst, _∙_}
-use mathlib.Core.Bool.{Bool, true, false, cond, _||_}
+use mathlib.Core.Path.{_≡_, refl, sym, ap, _∙_}
+use mathlib.Core.Bool.{Bool, true, false, cond}
 use mathlib.Core.List.{List, [], _∷_, _++_}
 use Prim.Native.Nat.{ℕ, suc, _+_, _≤_, _<_, min}
 use native.Mathlib.Omega.{arith}
@@ -11,7 +11,7 @@ use Rattle.std.specs.declared.option.Option.the-variants.{Some}
 use Rattle.std.specs.declared.result.Result.{Result}
 use Rattle.std.specs.declared.result.Result.the-variants.{Ok, Err}
 use Rattle.std.specs.shelf.Lawful.{all-pass}
-use Rattle.std.proofs.shelf.Lists.{take-more, take-all, length-append, length-take-le}
+use Rattle.std.proofs.shelf.Lists.{take-more, take-all, length-append}
 use Rattle.std.proofs.shelf.Tests.{and-parts, eqb-true, le-ltb}
 use Rattle.ordered.specs.declared.fault.IndexFault.{IndexFault}
 use Rattle.ordered.specs.declared.fault.IndexFault.the-variants.{UnequalRows}

@@ -1,6 +1,6 @@
 -- What a posting replies, and what it makes of the positions, for every input. Assumes nothing.
 --     ps is the index's list of pairs, limit the most that it may hold; a position's key is its member and then its code
-use mathlib.Core.Bool.{Bool, true, false, cond, _||_}
+use mathlib.Core.Bool.{Bool, cond, _||_}
 use mathlib.Core.List.{List, _++_}
 use Prim.Native.Nat.{ℕ}
 use lib.Dec.{ltb, eqb}

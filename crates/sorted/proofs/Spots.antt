@@ -1,21 +1,20 @@
 -- The pairs that sound rows hold, and a search among them. Assumes nothing.
-use mathlib.Core.Path.{_≡_, refl, sym, ap, subst, _∙_}
+use mathlib.Core.Path.{_≡_, sym, ap, subst, _∙_}
 use mathlib.Core.Bool.{true}
 use mathlib.Core.List.{List, map}
 use Prim.Native.Nat.{ℕ, _-_, _≤_, _<_}
 use native.Mathlib.Omega.{arith}
-use lib.ListN.{length, take, getD, length-map}
+use lib.ListN.{length, take, getD}
 use denote.Ref.{now}
 use Rattle.std.specs.declared.cmp.Ordering.the-variants.{Equal}
-use Rattle.std.specs.Finite.{zipped}
 use Rattle.std.proofs.shelf.Lists.{getD-map, getD-take, length-take-le}
 use Rattle.std.proofs.shelf.Pairs.{firsts-zipped, seconds-zipped}
 use Rattle.ordered.specs.declared.key.Key.{Key}
 use Rattle.sorted.specs.declared.rows.Rows.{Rows}
 use Rattle.ordered.specs.Order.{order, ascends, Parted}
 use Rattle.ordered.specs.Keys.{content}
-use Rattle.ordered.specs.Pairs.{Pairs, firsts, seconds, Held, Missing}
-use Rattle.sorted.specs.Rows.{pairsOf, Shape, Sound}
+use Rattle.ordered.specs.Pairs.{firsts, seconds, Held, Missing}
+use Rattle.sorted.specs.Rows.{pairsOf, Shape}
 use Rattle.ordered.proofs.Places.{held, missing}
 use Rattle.sorted.proofs.Zips.{even, both-length}
 

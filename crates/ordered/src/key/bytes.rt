@@ -5,7 +5,7 @@ ghost use mathlib.Core.List.{[], _++_};
 ghost use Prim.Native.Nat.{_+_, _≤_};
 ghost use lib.ListN.{length};
 ghost use Rattle.ordered.specs.Order.{max-key, order};
-ghost use Rattle.ordered.specs.Keys.{content, Faithful};
+ghost use Rattle.ordered.specs.Keys.{content};
 ghost use Rattle.ordered.specs.Replies.{long, contents, key-reply};
 use crate::fault::IndexFault;
 use crate::key::Key;
@@ -83,11 +83,4 @@ fn compared(a: &[u8], b: &[u8]) -> Ordering
     ensures { λ r. ⌜ r ≡ order (now (a .entry)) (now (b .entry)) ⌝ }
 {
     a.cmp(&b)
-}
-
-// Equal byte strings are equal keys.
-pub fn keys_stand() -> u8
-    ensures { λ _. ⌜ Faithful ⌝ }
-{
-    0
 }

@@ -1,9 +1,8 @@
-use mathlib.Core.Path.{_≡_, refl, sym, ap, _∙_}
+use mathlib.Core.Path.{_≡_, _∙_}
 use mathlib.Core.List.{_∷_}
 use Prim.Native.Nat.{_+_, _-_}
 use native.Mathlib.Omega.{arith}
-use lib.ListN.{length, take, drop}
-use Rattle.std.proofs.shelf.Parts.{between-is}
+use lib.ListN.{take}
 use Rattle.lines.specs.Words.{split}
 use Rattle.lines.proofs.Cuts.{passed-none, passed-more, passed-cut, passed-all, rest-is}
 use Rattle.lines.proofs.words.cut.Needs as need

@@ -1,5 +1,4 @@
 use mathlib.Core.Path.{_∙_}
-use Rattle.std.specs.declared.result.Result.the-variants.{Ok}
 use Rattle.std.proofs.shelf.Results.{made-from-err}
 use Rattle.std.specs.Of.String.{string-bytes}
 use Rattle.lines.specs.Buffers.{reading}

@@ -1,5 +1,4 @@
 use mathlib.Core.Path.{ap}
-use native.Mathlib.Omega.{arith}
 use Rattle.lines.proofs.Keeps.{kept-more}
 use Rattle.lines.proofs.line.LineBuffer.push.Needs as need
 

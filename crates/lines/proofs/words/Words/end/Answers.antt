@@ -1,5 +1,5 @@
 use mathlib.Core.Path.{sym, ap, _∙_}
-use Rattle.lines.specs.Words.{split, end-reply}
+use Rattle.lines.specs.Words.{end-reply}
 use Rattle.lines.specs.Parts.{part-words}
 use Rattle.lines.proofs.Takes.{left-over}
 use Rattle.lines.proofs.words.Words.end.Needs as need

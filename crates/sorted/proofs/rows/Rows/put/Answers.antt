@@ -1,5 +1,4 @@
 use mathlib.Core.Path.{_≡_, refl, sym, ap, _∙_}
-use mathlib.Core.Bool.{true}
 use native.Mathlib.Omega.{arith}
 use Rattle.std.specs.declared.option.Option.the-variants.{Some}
 use Rattle.ordered.specs.Order.{ascends}
@@ -7,7 +6,7 @@ use Rattle.ordered.specs.Pairs.{firsts, inserted}
 use Rattle.sorted.specs.Rows.{places, pairsOf}
 use Rattle.ordered.proofs.Places.{inserted-ascends}
 use Rattle.sorted.proofs.Spots.{held-inside, missing-inside, pairs-long}
-use Rattle.ordered.proofs.Outcomes.{key-made, key-refused, put-held, put-full, put-new}
+use Rattle.ordered.proofs.Outcomes.{key-made, put-held, put-full, put-new}
 use Rattle.std.specs.shelf.Lists as lists
 use Rattle.sorted.proofs.rows.Rows.put.Needs as need
 

@@ -1,5 +1,5 @@
-use mathlib.Core.Path.{_≡_, sym, ap, subst, _∙_}
-use lib.ListN.{length, length-map}
+use mathlib.Core.Path.{sym, subst, _∙_}
+use lib.ListN.{length-map}
 use Rattle.ordered.specs.Pairs.{firsts, Stopped}
 use Rattle.ordered.specs.Replies.{bound}
 use Rattle.sorted.specs.Rows.{pairsOf}
