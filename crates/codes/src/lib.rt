@@ -1,4 +1,6 @@
 // Codes of contracts and of members: types whose values always are good ones.
+#![tactic(auto)]
+
 mod code;
 mod member;
 mod text;

@@ -1,4 +1,6 @@
 // The console: what is answered to lines of input, as text.
+#![tactic(auto)]
+
 mod answer;
 mod console;
 mod fault;

@@ -1,4 +1,6 @@
 // Worked examples of the libraries, as tests.
+#![tactic(auto)]
+
 #[cfg(test)]
 mod index_tests;
 #[cfg(test)]

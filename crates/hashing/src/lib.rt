@@ -1,4 +1,6 @@
 // Hashes of byte strings that are fed part by part: a trait, and three hashes.
+#![tactic(auto)]
+
 mod crc32c;
 mod end;
 mod fnv;

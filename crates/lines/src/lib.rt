@@ -1,4 +1,6 @@
 // Lines of input: bytes into lines, lines into commands, words into numbers.
+#![tactic(auto)]
+
 mod command;
 mod fault;
 mod laws;

@@ -1,4 +1,6 @@
 // Names of entries: strings of tokens, of which the last may be the end.
+#![tactic(auto)]
+
 mod laws;
 mod name;
 mod spelling;

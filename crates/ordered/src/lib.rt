@@ -1,4 +1,6 @@
 // An ordered index of byte-string keys: its keys, its faults, its calls and what they mean.
+#![tactic(auto)]
+
 mod fault;
 mod index;
 mod key;

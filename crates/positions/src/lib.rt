@@ -1,4 +1,6 @@
 // Members' open positions over any ordered index.
+#![tactic(auto)]
+
 mod fault;
 mod laws;
 mod ledger;

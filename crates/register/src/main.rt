@@ -1,4 +1,6 @@
 // The program: lines from standard input, answers to standard output.
+#![tactic(auto)]
+
 use anyhow::anyhow;
 use console::{LIMIT, Session};
 use ordered::{Key, OrderedIndex};

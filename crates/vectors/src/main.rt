@@ -1,4 +1,6 @@
 // The hashes of published strings, and how many ways of splitting strings leave a hash as it is.
+#![tactic(auto)]
+
 mod splits;
 mod strings;
 
