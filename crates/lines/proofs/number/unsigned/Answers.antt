@@ -7,9 +7,9 @@ use Rattle.lines.proofs.number.unsigned.Goals as goal
 pub loop-byte-init : goal.loop-byte-init
 loop-byte-init c = read_none c.args.word.now
 
-pub returns-then-not-is-ascii-digit : goal.returns-then-not-is-ascii-digit
-returns-then-not-is-ascii-digit c = record {
-  value = read_broken c.args.word.now c.loop-byte.byte-index c.loop-byte.value c.loop-byte-test.true c.loop-byte.invariant (sym c.if-not-is-ascii-digit.ensures.value);
+pub returns-then-not-is_ascii_digit : goal.returns-then-not-is_ascii_digit
+returns-then-not-is_ascii_digit c = record {
+  value = read_broken c.args.word.now c.loop-byte.byte-index c.loop-byte.value c.loop-byte-test.true c.loop-byte.invariant (sym c.if-not-is_ascii_digit.ensures.value);
   small = tt;
 }
 
@@ -18,7 +18,7 @@ loop-byte-preserved c =
     let i = c.loop-byte.byte-index in
     let n = c.loop-byte.value in
     subst (λ d. Read c.args.word.now (i + 1) (n * 10 + d)) (sym c.from.ensures)
-    (read_more c.args.word.now i n c.loop-byte-test.true c.loop-byte.invariant (sym c.if-not-is-ascii-digit.ensures.value))
+    (read_more c.args.word.now i n c.loop-byte-test.true c.loop-byte.invariant (sym c.if-not-is_ascii_digit.ensures.value))
 
 pub returns : goal.returns
 returns c =
@@ -26,7 +26,7 @@ returns c =
     let i = c.loop-byte.byte-index in
     let end : i ≤ 10 = omega arith in
     let p : 10 ^ i ≤ 10 ^ 10 = pow-le-pow_right (lit< tt) end in
-    let some : eqb (length w) 0 ≡ false = sym c.if-is-empty.ensures in
+    let some : eqb (length w) 0 ≡ false = sym c.if-is_empty.ensures in
     let either = c.if-word-gt1.either in
     let shape : (leb 1 (length w) && leb (length w) 10 && not (eqb (get_or w 0 0) 48 && ltb 1 (length w))) ≡ true = grind (arith, nat_tests) in
     record {

@@ -13,12 +13,12 @@ returns-then-name c = rw c.if-name.true (sym (push_behind (start_of c.args.name.
 pub returns-in-End : goal.returns-in-End
 returns-in-End c = ap Some c.new.ensures ∙ child_end c.args.name.now c.args.token c.if-name.false c.in-End.is
 
-pub returns-in-err-start : goal.returns-in-err-start
-returns-in-err-start c =
-    ap named c.from-residual.ensures ∙ ap (option_map (λ k. spelled (content k) false)) (sym c.in-err-start.was)
+pub returns-in_err-start : goal.returns-in_err-start
+returns-in_err-start c =
+    ap named c.from-residual.ensures ∙ ap (option_map (λ k. spelled (content k) false)) (sym c.in_err-start.was)
     ∙ child_byte c.args.name.now c.args.token c.in-Byte.byte c.start.result.now c.joined.result c.ok.result c.if-name.false c.in-Byte.is c.start.ensures.bytes c.joined.ensures c.ok.ensures.value
 
-pub returns-in-ok-start : goal.returns-in-ok-start
-returns-in-ok-start c =
-    ap Some c.new-in-Byte.ensures ∙ ap (option_map (λ k. spelled (content k) false)) (sym c.in-ok-start.was)
+pub returns-in_ok-start : goal.returns-in_ok-start
+returns-in_ok-start c =
+    ap Some c.new-in-Byte.ensures ∙ ap (option_map (λ k. spelled (content k) false)) (sym c.in_ok-start.was)
     ∙ child_byte c.args.name.now c.args.token c.in-Byte.byte c.start.result.now c.joined.result c.ok.result c.if-name.false c.in-Byte.is c.start.ensures.bytes c.joined.ensures c.ok.ensures.value

@@ -6,15 +6,15 @@ use Rattle.positions.specs.Posting.{flat, beyond, post_reply, posted, max_postin
 use Rattle.positions.proofs.Exits.{bad_code, bad_lots}
 use Rattle.positions.proofs.ledger.post.Goals as goal
 
-pub returns-in-default-new : goal.returns-in-default-new
-returns-in-default-new g c =
-    let x = bad_code (g.I.OrderedIndex.pairs c.args.index.now) (g.I.OrderedIndex.limit c.args.index.now) c.args.member.now c.args.code.now c.args.lots (taken _ _ _ c.in-Some.ensures).1 (refused _ _ c.in-default-new.ensures) in
+pub returns-in_default-new : goal.returns-in_default-new
+returns-in_default-new g c =
+    let x = bad_code (g.I.OrderedIndex.pairs c.args.index.now) (g.I.OrderedIndex.limit c.args.index.now) c.args.member.now c.args.code.now c.args.lots (taken _ _ _ c.in-Some.ensures).1 (refused _ _ c.in_default-new.ensures) in
     record { reply = x.0; after = x.1; limit = refl }
 
-pub returns-then-not-is-posting : goal.returns-then-not-is-posting
-returns-then-not-is-posting g c =
+pub returns-then-not-is_posting : goal.returns-then-not-is_posting
+returns-then-not-is_posting g c =
     let lots = c.args.lots in
-    let bad : (flat lots || beyond max_posting lots) ≡ true = not-false _ (sym (c.if-not-is-posting.ensures ∙ ap (λ z. not (flat z || beyond max_posting z)) (to_z-of_z w64 lots c.ranges.lots))) in
+    let bad : (flat lots || beyond max_posting lots) ≡ true = not-false _ (sym (c.if-not-is_posting.ensures ∙ ap (λ z. not (flat z || beyond max_posting z)) (to_z-of_z w64 lots c.ranges.lots))) in
     let x = bad_lots (g.I.OrderedIndex.pairs c.args.index.now) (g.I.OrderedIndex.limit c.args.index.now) c.args.member.now c.args.code.now lots (taken _ _ _ c.in-Some.ensures).1 (taken _ _ _ c.in-Some-new.ensures).1 bad in
     record { reply = x.0; after = x.1; limit = refl }
 

@@ -16,9 +16,9 @@ returns g c =
     let is = c.as-bytes.ensures.bytes in
     let to : c.end-of-end.result ≡ end ps m good = c.end-of-end.ensures in
     let run : between ps c.as-bytes.result.now (Some c.end-of-end.result) ≡ under m ps = (λ t. between ps (is t) (Some (to t))) ∙ own ps m good in
-    let r = c.in-ok-run.ensures in
+    let r = c.in_ok-run.ensures in
     record {
-      reply = listed ps m good i n (Ok c.in-ok-run.field-0) (r.reply ∙ (λ t. run_reply ps (is t) (Some (to t)) i n));
+      reply = listed ps m good i n (Ok c.in_ok-run.field-0) (r.reply ∙ (λ t. run_reply ps (is t) (Some (to t)) i n));
       keys = r.keys ∙ ap (λ qs. written (map content c.args.keys.now) (firsts qs)) run;
       lots = r.values ∙ ap (λ qs. written c.args.lots.now (seconds qs)) run;
     }

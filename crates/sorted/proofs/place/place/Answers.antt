@@ -21,7 +21,7 @@ loop-low-preserved-in-Less c =
 pub loop-low-preserved : goal.loop-low-preserved
 loop-low-preserved c =
     let i = c.loop-low.invariant in
-    (omega arith, omega arith, i.2, upper c.args.key.now c.args.keys.now _ _ c.requires (omega arith) c.index-keys-mid.is (λ e. c.in-default.not-Less (c.order.ensures ∙ e)))
+    (omega arith, omega arith, i.2, upper c.args.key.now c.args.keys.now _ _ c.requires (omega arith) c.index-keys-mid.is (λ e. c.in_default.not-Less (c.order.ensures ∙ e)))
 
 pub returns : goal.returns
 returns c =

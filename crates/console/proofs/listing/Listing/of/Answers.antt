@@ -6,5 +6,5 @@ use Rattle.console.specs.Answers.{max_listed}
 pub returns : goal.returns
 returns g c =
     let ps = g.I.OrderedIndex.pairs c.args.positions.now.index in
-    let r = c.in-ok-count.ensures in
-    gathered ps c.args.member.now _ (replicate max_listed c.empty-keys.result) _ (replicate max_listed (pos 0)) c.in-ok-count.count _ refl refl r.reply r.keys r.lots
+    let r = c.in_ok-count.ensures in
+    gathered ps c.args.member.now _ (replicate max_listed c.empty-keys.result) _ (replicate max_listed (pos 0)) c.in_ok-count.count _ refl refl r.reply r.keys r.lots

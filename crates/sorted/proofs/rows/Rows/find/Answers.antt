@@ -9,9 +9,9 @@ pub returns-in-Equal : goal.returns-in-Equal
 returns-in-Equal g c =
     found c.args.self.now c.requires.0 c.args.key.now c.place-at.result c.index-keys-at.result c.place-at.ensures c.if-at-self.true c.index-keys-at.is (sym c.in-Equal.ensures)
 
-pub returns-in-default : goal.returns-in-default
-returns-in-default g c =
-    absent c.args.self.now c.requires.0 c.args.key.now c.place-at.result c.index-keys-at.result c.requires.1 c.place-at.ensures c.index-keys-at.is (λ e. c.in-default.not-Equal (c.order.ensures ∙ e))
+pub returns-in_default : goal.returns-in_default
+returns-in_default g c =
+    absent c.args.self.now c.requires.0 c.args.key.now c.place-at.result c.index-keys-at.result c.requires.1 c.place-at.ensures c.index-keys-at.is (λ e. c.in_default.not-Equal (c.order.ensures ∙ e))
 
 pub returns-else-at-self : goal.returns-else-at-self
 returns-else-at-self g c = at_end c.args.self.now c.requires.0 c.args.key.now c.place-at.result c.requires.1 c.place-at.ensures c.if-at-self.false

@@ -25,7 +25,7 @@ pub returns-then-self : goal.returns-then-self
 returns-then-self g c =
     let r = c.args.self.now in
     let n = pairs_long r c.requires.0 in
-    let made = key_made c.args.key.now _ c.in-ok-own.ensures in
+    let made = key_made c.args.key.now _ c.in_ok-own.ensures in
     record {
       sound = c.requires;
       reply = put_full (pairs_of r) c.args.key.now made.1 (places r) c.in-Err.ensures.found (omega arith);
@@ -42,7 +42,7 @@ returns-in-Ok g c =
     let after : pairs_of c.replace.new.self ≡ inserted (pairs_of r) k c.args.value = e.after k (h.key k) ∙ sym (h.put c.args.value) in
     record {
       sound = (e.shape, ap (λ ps. ascends (firsts ps)) after ∙ inserted_ascends k (pairs_of r) c.args.value c.requires.1);
-      reply = put_held (pairs_of r) k (key_made k _ c.in-ok-own.ensures).1 (places r) _ (h.found _ ∙ ap Some (sym e.reply));
+      reply = put_held (pairs_of r) k (key_made k _ c.in_ok-own.ensures).1 (places r) _ (h.found _ ∙ ap Some (sym e.reply));
       after = after;
       limit = e.room;
     }
@@ -54,7 +54,7 @@ returns-else-self g c =
     let h = c.in-Err.ensures in
     let e = c.insert.ensures in
     let n = pairs_long r c.requires.0 in
-    let made = key_made k _ c.in-ok-own.ensures in
+    let made = key_made k _ c.in_ok-own.ensures in
     let after : pairs_of c.insert.new.self ≡ inserted (pairs_of r) k c.args.value = e.after ∙ ap (λ j. lists.insert (pairs_of r) c.in-Err.at (j, c.args.value)) made.0 ∙ sym (h.put c.args.value) in
     record {
       sound = (e.shape, ap (λ ps. ascends (firsts ps)) after ∙ inserted_ascends k (pairs_of r) c.args.value c.requires.1);
