@@ -2,7 +2,7 @@
 ghost use Rattle.std.specs.Prelude.{◌≡◌, fold};
 ghost use Rattle.std.proofs.Common.{sym, rules};
 ghost use Rattle.hashing.specs.Crc.{crc_start, crc_bits, crc_step, crc_number, crc_32c};
-ghost use Rattle.std.proofs.iter.runs.Lists.{fold-append};
+ghost use Rattle.std.proofs.lemmas.List.Sums.{fold-append};
 
 use crate::string_hash::StringHash;
 

@@ -2,7 +2,7 @@
 ghost use Rattle.std.specs.Prelude.{◌≡◌, fold};
 ghost use Rattle.std.proofs.Common.{sym, rules};
 ghost use Rattle.hashing.specs.Fnv.{fnv_start, fnv_step, fnv_1a};
-ghost use Rattle.std.proofs.iter.runs.Lists.{fold-append};
+ghost use Rattle.std.proofs.lemmas.List.Sums.{fold-append};
 
 use crate::string_hash::StringHash;
 

@@ -32,7 +32,7 @@ returns g c =
     let long : length (between (pairs_of r) c.args.first.now (bound c.args.end)) ≡ j - i = ap length s.is ∙ length-between (pairs_of r) i j s.inside in
     let same : length c.args.keys.now ≡ length c.args.values.now = omega arith in
     record {
-      reply = run_made (pairs_of r) c.args.first.now (bound c.args.end) (length c.args.keys.now) (length c.args.values.now) n (j - i) c.if-too-long.ensures same long c.min-taken.ensures;
+      reply = run_made (pairs_of r) c.args.first.now (bound c.args.end) (length c.args.keys.now) (length c.args.values.now) n (j - i) c.if-too_long.ensures same long c.min-taken.ensures;
       keys = ap (map content) c.copy.ensures
           ∙ copied content r.keys.now c.args.keys.now _ i j r.len n s.order (omega arith) (omega arith) c.min-taken.ensures
           (ap firsts s.is ∙ firsts_between (pairs_of r) i j ∙ ap (lists.between i j) (firsts_are r c.requires.0));
