@@ -23,9 +23,9 @@ pub(crate) struct Console<I: OrderedIndex<i64> + Drop> {
 impl<I: OrderedIndex<i64> + Drop> Console<I> {
     // Answers the next line, or what was wrong with reading it.
     pub(crate) fn answer(&mut self, line: Result<&[u8], LineFault>) -> Answer
-        ensures text { answer_text result ≡ said (next_line self.old.lines) (line_outcome (pairs self.old.positions.index) (limit self.old.positions.index) (told line.entry)) }
-        ensures pairs { pairs self.new.positions.index ≡ line_pairs (pairs self.old.positions.index) (limit self.old.positions.index) (told line.entry) }
-        ensures limit { limit self.new.positions.index ≡ limit self.old.positions.index }
+        ensures text { answer_text result ≡ said (next_line self.old.lines) (line_outcome (I.pairs self.old.positions.index) (I.limit self.old.positions.index) (told line.entry)) }
+        ensures pairs { I.pairs self.new.positions.index ≡ line_pairs (I.pairs self.old.positions.index) (I.limit self.old.positions.index) (told line.entry) }
+        ensures limit { I.limit self.new.positions.index ≡ I.limit self.old.positions.index }
         ensures lines { self.new.lines ≡ next_line self.old.lines }
     {
         self.lines = self.lines.saturating_add(1);
@@ -44,9 +44,9 @@ fn carry_out<I: OrderedIndex<i64> + Drop>(
     positions: &mut Positions<I>,
     line: Result<&[u8], LineFault>,
 ) -> Result<Answer, Fault>
-    ensures outcome { answers_text result ≡ line_outcome (pairs positions.old.index) (limit positions.old.index) (told line.entry) }
-    ensures pairs { pairs positions.new.index ≡ line_pairs (pairs positions.old.index) (limit positions.old.index) (told line.entry) }
-    ensures limit { limit positions.new.index ≡ limit positions.old.index }
+    ensures outcome { answers_text result ≡ line_outcome (I.pairs positions.old.index) (I.limit positions.old.index) (told line.entry) }
+    ensures pairs { I.pairs positions.new.index ≡ line_pairs (I.pairs positions.old.index) (I.limit positions.old.index) (told line.entry) }
+    ensures limit { I.limit positions.new.index ≡ I.limit positions.old.index }
 {
     match Command::read(line?)? {
         Command::Post { member, code, lots } => post(positions, member, code, lots),
@@ -61,9 +61,9 @@ fn post<I: OrderedIndex<i64> + Drop>(
     code: &[u8],
     lots: &[u8],
 ) -> Result<Answer, Fault>
-    ensures outcome { answers_text result ≡ post_outcome (pairs positions.old.index) (limit positions.old.index) member.now code.now (number_reply (lots_number lots.now)) }
-    ensures pairs { pairs positions.new.index ≡ post_pairs (pairs positions.old.index) (limit positions.old.index) member.now code.now (number_reply (lots_number lots.now)) }
-    ensures limit { limit positions.new.index ≡ limit positions.old.index }
+    ensures outcome { answers_text result ≡ post_outcome (I.pairs positions.old.index) (I.limit positions.old.index) member.now code.now (number_reply (lots_number lots.now)) }
+    ensures pairs { I.pairs positions.new.index ≡ post_pairs (I.pairs positions.old.index) (I.limit positions.old.index) member.now code.now (number_reply (lots_number lots.now)) }
+    ensures limit { I.limit positions.new.index ≡ I.limit positions.old.index }
 {
     let lots = lines::lots(lots)?;
     let lots = positions.post(member, code, lots)?;

@@ -33,17 +33,17 @@ impl<I: OrderedIndex<i64> + Drop> Session<I> {
 
     // Takes a part of the input, and writes the answers to the lines that end in it.
     pub fn take(&mut self, input: &[u8], out: &mut String) -> fmt::Result
-        ensures text { OnOk result (string_bytes out.new ≡ string_bytes out.old ++ transcript (limit self.old.console.positions.index) (standing (reading self.old.line) self.old.console.lines (pairs self.old.console.positions.index)) input.now) }
-        ensures after { OnOk result (standing (reading self.new.line) self.new.console.lines (pairs self.new.console.positions.index) ≡ after (limit self.old.console.positions.index) (standing (reading self.old.line) self.old.console.lines (pairs self.old.console.positions.index)) input.now) }
-        ensures limit { limit self.new.console.positions.index ≡ limit self.old.console.positions.index }
+        ensures text { OnOk result (string_bytes out.new ≡ string_bytes out.old ++ transcript (I.limit self.old.console.positions.index) (standing (reading self.old.line) self.old.console.lines (I.pairs self.old.console.positions.index)) input.now) }
+        ensures after { OnOk result (standing (reading self.new.line) self.new.console.lines (I.pairs self.new.console.positions.index) ≡ after (I.limit self.old.console.positions.index) (standing (reading self.old.line) self.old.console.lines (I.pairs self.old.console.positions.index)) input.now) }
+        ensures limit { I.limit self.new.console.positions.index ≡ I.limit self.old.console.positions.index }
     {
         self.take_bytes(input, out)
     }
 
     fn take_bytes(&mut self, input: &[u8], out: &mut String) -> fmt::Result
-        ensures text { OnOk result (string_bytes out.new ≡ string_bytes out.old ++ transcript (limit self.old.console.positions.index) (standing (reading self.old.line) self.old.console.lines (pairs self.old.console.positions.index)) input.now) }
-        ensures after { OnOk result (standing (reading self.new.line) self.new.console.lines (pairs self.new.console.positions.index) ≡ after (limit self.old.console.positions.index) (standing (reading self.old.line) self.old.console.lines (pairs self.old.console.positions.index)) input.now) }
-        ensures limit { limit self.new.console.positions.index ≡ limit self.old.console.positions.index }
+        ensures text { OnOk result (string_bytes out.new ≡ string_bytes out.old ++ transcript (I.limit self.old.console.positions.index) (standing (reading self.old.line) self.old.console.lines (I.pairs self.old.console.positions.index)) input.now) }
+        ensures after { OnOk result (standing (reading self.new.line) self.new.console.lines (I.pairs self.new.console.positions.index) ≡ after (I.limit self.old.console.positions.index) (standing (reading self.old.line) self.old.console.lines (I.pairs self.old.console.positions.index)) input.now) }
+        ensures limit { I.limit self.new.console.positions.index ≡ I.limit self.old.console.positions.index }
     {
         for byte in input {
             self.take_byte(*byte, out)?;
@@ -52,9 +52,9 @@ impl<I: OrderedIndex<i64> + Drop> Session<I> {
     }
 
     fn take_byte(&mut self, byte: u8, out: &mut String) -> fmt::Result
-        ensures text { OnOk result (string_bytes out.new ≡ string_bytes out.old ++ text_at (limit self.old.console.positions.index) (standing (reading self.old.line) self.old.console.lines (pairs self.old.console.positions.index)) byte) }
-        ensures after { standing (reading self.new.line) self.new.console.lines (pairs self.new.console.positions.index) ≡ step (limit self.old.console.positions.index) (standing (reading self.old.line) self.old.console.lines (pairs self.old.console.positions.index)) byte }
-        ensures limit { limit self.new.console.positions.index ≡ limit self.old.console.positions.index }
+        ensures text { OnOk result (string_bytes out.new ≡ string_bytes out.old ++ text_at (I.limit self.old.console.positions.index) (standing (reading self.old.line) self.old.console.lines (I.pairs self.old.console.positions.index)) byte) }
+        ensures after { standing (reading self.new.line) self.new.console.lines (I.pairs self.new.console.positions.index) ≡ step (I.limit self.old.console.positions.index) (standing (reading self.old.line) self.old.console.lines (I.pairs self.old.console.positions.index)) byte }
+        ensures limit { I.limit self.new.console.positions.index ≡ I.limit self.old.console.positions.index }
     {
         if self.line.feed(byte) {
             let answer = self.console.answer(self.line.line());
@@ -65,9 +65,9 @@ impl<I: OrderedIndex<i64> + Drop> Session<I> {
 
     // At the end of the input: a last line may lack its newline.
     pub fn finish(&mut self, out: &mut String) -> fmt::Result
-        ensures text { OnOk result (string_bytes out.new ≡ string_bytes out.old ++ ending (limit self.old.console.positions.index) (standing (reading self.old.line) self.old.console.lines (pairs self.old.console.positions.index))) }
-        ensures after { standing (reading self.new.line) self.new.console.lines (pairs self.new.console.positions.index) ≡ ended (limit self.old.console.positions.index) (standing (reading self.old.line) self.old.console.lines (pairs self.old.console.positions.index)) }
-        ensures limit { limit self.new.console.positions.index ≡ limit self.old.console.positions.index }
+        ensures text { OnOk result (string_bytes out.new ≡ string_bytes out.old ++ ending (I.limit self.old.console.positions.index) (standing (reading self.old.line) self.old.console.lines (I.pairs self.old.console.positions.index))) }
+        ensures after { standing (reading self.new.line) self.new.console.lines (I.pairs self.new.console.positions.index) ≡ ended (I.limit self.old.console.positions.index) (standing (reading self.old.line) self.old.console.lines (I.pairs self.old.console.positions.index)) }
+        ensures limit { I.limit self.new.console.positions.index ≡ I.limit self.old.console.positions.index }
     {
         if self.line.pending() {
             self.take_byte(b'\n', out)?;

@@ -36,9 +36,9 @@ fn sum_of(held: i64, lots: i64) -> Option<i64>
 
 // Has the key hold a sum, or lets it go where that is 0: the sum.
 fn settle<I: OrderedIndex<i64>>(index: &mut I, key: &[u8], sum: i64) -> Result<i64, PositionFault>
-    ensures reply { result ≡ settle_reply (pairs index.old) (limit index.old) key.now sum }
-    ensures after { pairs index.new ≡ changed result (pairs index.old) (settled (pairs index.old) key.now sum) }
-    ensures limit { limit index.new ≡ limit index.old }
+    ensures reply { result ≡ settle_reply (I.pairs index.old) (I.limit index.old) key.now sum }
+    ensures after { I.pairs index.new ≡ changed result (I.pairs index.old) (settled (I.pairs index.old) key.now sum) }
+    ensures limit { I.limit index.new ≡ I.limit index.old }
 {
     if sum == 0 {
         index.drop(key)?;
@@ -55,9 +55,9 @@ pub(crate) fn post<I: OrderedIndex<i64>>(
     code: &[u8],
     lots: i64,
 ) -> Result<i64, PositionFault>
-    ensures reply { result ≡ post_reply (pairs index.old) (limit index.old) member.now code.now lots }
-    ensures after { pairs index.new ≡ posted (pairs index.old) (limit index.old) member.now code.now lots }
-    ensures limit { limit index.new ≡ limit index.old }
+    ensures reply { result ≡ post_reply (I.pairs index.old) (I.limit index.old) member.now code.now lots }
+    ensures after { I.pairs index.new ≡ posted (I.pairs index.old) (I.limit index.old) member.now code.now lots }
+    ensures limit { I.limit index.new ≡ I.limit index.old }
 {
     let Some(member) = Member::new(member) else {
         return Err(PositionFault::BadMember);
@@ -79,9 +79,9 @@ fn add<I: OrderedIndex<i64>>(
     lots: i64,
 ) -> Result<i64, PositionFault>
     requires { (flat lots || beyond max_posting lots) ≡ false }
-    ensures reply { result ≡ post_reply (pairs index.old) (limit index.old) (member_text member) (code_text code) lots }
-    ensures after { pairs index.new ≡ posted (pairs index.old) (limit index.old) (member_text member) (code_text code) lots }
-    ensures limit { limit index.new ≡ limit index.old }
+    ensures reply { result ≡ post_reply (I.pairs index.old) (I.limit index.old) (member_text member) (code_text code) lots }
+    ensures after { I.pairs index.new ≡ posted (I.pairs index.old) (I.limit index.old) (member_text member) (code_text code) lots }
+    ensures limit { I.limit index.new ≡ I.limit index.old }
 {
     let key = Key::joined(member.as_bytes(), code.as_bytes())?;
     let held = index.get(key.as_bytes())?.unwrap_or(0);
@@ -106,9 +106,9 @@ pub(crate) fn list<I: OrderedIndex<i64>>(
     keys: &mut [Key],
     lots: &mut [i64],
 ) -> Result<(usize, bool), PositionFault>
-    ensures reply { result ≡ list_reply (pairs index.now) member.now (length keys.old) (length lots.old) }
-    ensures keys { map content keys.new ≡ list_keys result (pairs index.now) member.now (map content keys.old) }
-    ensures lots { lots.new ≡ list_lots result (pairs index.now) member.now lots.old }
+    ensures reply { result ≡ list_reply (I.pairs index.now) member.now (length keys.old) (length lots.old) }
+    ensures keys { map content keys.new ≡ list_keys result (I.pairs index.now) member.now (map content keys.old) }
+    ensures lots { lots.new ≡ list_lots result (I.pairs index.now) member.now lots.old }
 {
     let Some(member) = Member::new(member) else {
         return Err(PositionFault::BadMember);
@@ -123,9 +123,9 @@ fn run<I: OrderedIndex<i64>>(
     keys: &mut [Key],
     lots: &mut [i64],
 ) -> Result<(usize, bool), PositionFault>
-    ensures reply { result ≡ list_reply (pairs index.now) (member_text member) (length keys.old) (length lots.old) }
-    ensures keys { map content keys.new ≡ list_keys result (pairs index.now) (member_text member) (map content keys.old) }
-    ensures lots { lots.new ≡ list_lots result (pairs index.now) (member_text member) lots.old }
+    ensures reply { result ≡ list_reply (I.pairs index.now) (member_text member) (length keys.old) (length lots.old) }
+    ensures keys { map content keys.new ≡ list_keys result (I.pairs index.now) (member_text member) (map content keys.old) }
+    ensures lots { lots.new ≡ list_lots result (I.pairs index.now) (member_text member) lots.old }
 {
     let end = end_of(member);
     Ok(index.run(member.as_bytes(), Some(&end), keys, lots)?)

@@ -17,7 +17,7 @@ pub struct Positions<I: OrderedIndex<i64> + Drop> {
 impl<I: OrderedIndex<i64> + Drop> Positions<I> {
     // Over an index that holds nothing.
     pub fn open(index: I) -> Result<Positions<I>, PositionFault>
-        ensures { elim result [ Ok p ↦ (p.index ≡ index) × (length (pairs index) ≡ 0) | Err f ↦ (f ≡ NotEmpty) × (length (pairs index) ≢ 0) ] }
+        ensures { elim result [ Ok p ↦ (p.index ≡ index) × (length (I.pairs index) ≡ 0) | Err f ↦ (f ≡ NotEmpty) × (length (I.pairs index) ≢ 0) ] }
     {
         if index.count() != 0 {
             return Err(PositionFault::NotEmpty);
@@ -27,9 +27,9 @@ impl<I: OrderedIndex<i64> + Drop> Positions<I> {
 
     // Adds lots to a member's position in a code: what it comes to.
     pub fn post(&mut self, member: &[u8], code: &[u8], lots: i64) -> Result<i64, PositionFault>
-        ensures reply { result ≡ post_reply (pairs self.old.index) (limit self.old.index) member.now code.now lots }
-        ensures after { pairs self.new.index ≡ posted (pairs self.old.index) (limit self.old.index) member.now code.now lots }
-        ensures limit { limit self.new.index ≡ limit self.old.index }
+        ensures reply { result ≡ post_reply (I.pairs self.old.index) (I.limit self.old.index) member.now code.now lots }
+        ensures after { I.pairs self.new.index ≡ posted (I.pairs self.old.index) (I.limit self.old.index) member.now code.now lots }
+        ensures limit { I.limit self.new.index ≡ I.limit self.old.index }
     {
         ledger::post(&mut self.index, member, code, lots)
     }
@@ -42,9 +42,9 @@ impl<I: OrderedIndex<i64> + Drop> Positions<I> {
         keys: &mut [Key],
         lots: &mut [i64],
     ) -> Result<(usize, bool), PositionFault>
-        ensures reply { result ≡ list_reply (pairs self.now.index) member.now (length keys.old) (length lots.old) }
-        ensures keys { map content keys.new ≡ list_keys result (pairs self.now.index) member.now (map content keys.old) }
-        ensures lots { lots.new ≡ list_lots result (pairs self.now.index) member.now lots.old }
+        ensures reply { result ≡ list_reply (I.pairs self.now.index) member.now (length keys.old) (length lots.old) }
+        ensures keys { map content keys.new ≡ list_keys result (I.pairs self.now.index) member.now (map content keys.old) }
+        ensures lots { lots.new ≡ list_lots result (I.pairs self.now.index) member.now lots.old }
     {
         ledger::list(&self.index, member, keys, lots)
     }

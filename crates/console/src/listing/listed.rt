@@ -17,7 +17,7 @@ impl Listing {
         positions: &Positions<I>,
         member: &[u8],
     ) -> Result<Listing, PositionFault>
-        ensures { listings result ≡ listing_reply (pairs positions.now.index) member.now }
+        ensures { listings result ≡ listing_reply (I.pairs positions.now.index) member.now }
     {
         let mut keys = [Key::empty(); LIMIT];
         let mut lots = [0; LIMIT];

@@ -17,21 +17,21 @@ flag_self : (t : Bool) → beq t t ≡ true
 flag_self true = refl
 flag_self false = refl
 
-pub returns-then-ended-other-ended : goal.returns-then-ended-other-ended
-returns-then-ended-other-ended c =
+pub returns-then-ended-other_ended : goal.returns-then-ended-other_ended
+returns-then-ended-other_ended c =
     let a = c.args.bytes.now in
     let b = c.args.other.now in
     let t = c.args.ended in
-    let u = c.args.other-ended in
-    let flags : t ≡ u = same_flag t u c.if-ended-other-ended.true in
+    let u = c.args.other_ended in
+    let flags : t ≡ u = same_flag t u c.if-ended-other_ended.true in
     Decides-like c.eq.result (λ e. ap (λ x. spelled x t) e ∙ ap (spelled b) flags) (λ e. (same_spelled a b t u e).0) (slice_eq-Decides Decides-eqb a b c.eq.result c.eq.ensures)
 
-pub returns-else-ended-other-ended : goal.returns-else-ended-other-ended
-returns-else-ended-other-ended c =
+pub returns-else-ended-other_ended : goal.returns-else-ended-other_ended
+returns-else-ended-other_ended c =
     let a = c.args.bytes.now in
     let b = c.args.other.now in
     let t = c.args.ended in
-    let u = c.args.other-ended in (
-      λ e. absurd (both_ways (beq t u) c.if-ended-other-ended.false e),
+    let u = c.args.other_ended in (
+      λ e. absurd (both_ways (beq t u) c.if-ended-other_ended.false e),
       λ e. ap (λ v. beq v u) (same_spelled a b t u e).1 ∙ flag_self u,
     )

@@ -10,7 +10,7 @@ pub returns-then-ended : goal.returns-then-ended
 returns-then-ended c =
     let a = c.args.bytes.now in
     let b = c.args.other.now in
-    let u = c.args.other-ended in
+    let u = c.args.other_ended in
     let found = simp c.if-ended.true at c.alike.ensures in
     rw c.if-ended.true (same_from_decides c.alike.result (begins (spelled a true) (spelled b u)) found (begins_decides a b u))
 
@@ -18,6 +18,6 @@ pub returns : goal.returns
 returns c =
     let a = c.args.bytes.now in
     let b = c.args.other.now in
-    let r = c.starts-with.result in
-    let first = Decides-like r sym sym (slice_eq-Decides Decides-eqb a (take (length a) b) r c.starts-with.ensures.value) in
-    rw c.if-ended.false (same_from_decides r (begins a b) first (begins_first a b) ∙ sym (begins_open a b c.args.other-ended))
+    let r = c.starts_with.result in
+    let first = Decides-like r sym sym (slice_eq-Decides Decides-eqb a (take (length a) b) r c.starts_with.ensures.value) in
+    rw c.if-ended.false (same_from_decides r (begins a b) first (begins_first a b) ∙ sym (begins_open a b c.args.other_ended))

@@ -13,9 +13,9 @@ returns g c =
     let good = c.args.member.good in
     let i = length c.args.keys.now in
     let n = length c.args.lots.now in
-    let is = c.as-bytes.ensures.bytes in
-    let to : c.end-of-end.result ≡ end ps m good = c.end-of-end.ensures in
-    let run : between ps c.as-bytes.result.now (Some c.end-of-end.result) ≡ under m ps = (λ t. between ps (is t) (Some (to t))) ∙ own ps m good in
+    let is = c.as_bytes.ensures.bytes in
+    let to : c.end_of-end.result ≡ end ps m good = c.end_of-end.ensures in
+    let run : between ps c.as_bytes.result.now (Some c.end_of-end.result) ≡ under m ps = (λ t. between ps (is t) (Some (to t))) ∙ own ps m good in
     let r = c.in_ok-run.ensures in
     record {
       reply = listed ps m good i n (Ok c.in_ok-run.field-0) (r.reply ∙ (λ t. run_reply ps (is t) (Some (to t)) i n));

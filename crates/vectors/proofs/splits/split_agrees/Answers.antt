@@ -8,4 +8,4 @@ returns g c =
     let at = c.args.at in
     let start : at - 0 ≡ at = omega arith in
     let parts : take (at - 0) bytes ++ take (length bytes - at) (drop at bytes) ≡ bytes = rw (start, take_rest bytes at) (take-append-drop at bytes) in
-    eq-eqb c.hash-joined.result c.hash.result (c.hash-joined.ensures ∙ ap g.H.StringHash.hashed parts ∙ sym c.hash.ensures)
+    eq-eqb c.hash_joined.result c.hash.result (c.hash_joined.ensures ∙ ap g.H.StringHash.hashed parts ∙ sym c.hash.ensures)

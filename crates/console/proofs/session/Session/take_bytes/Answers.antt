@@ -11,15 +11,15 @@ loop-byte-preserved g c =
     let inv = c.loop-byte.invariant in
     let h = c.loop-byte.self in
     let here = standing (reading h.line) h.console.lines (m.pairs h.console.positions.index) in
-    let e = c.in_ok-take-byte.ensures in
+    let e = c.in_ok-take_byte.ensures in
     let t = turn (m.limit c.args.self.now.console.positions.index) (m.limit h.console.positions.index) here _ c.args.input.now c.loop-byte.byte-index (string_bytes c.loop-byte.out) _ c.loop-byte-test.true inv.2 e.text e.after in
     (t.0 ∙ inv.0, t.1 ∙ inv.1, e.limit ∙ inv.2)
 
-pub returns-in_err-take-byte : goal.returns-in_err-take-byte
-returns-in_err-take-byte g c = record {
+pub returns-in_err-take_byte : goal.returns-in_err-take_byte
+returns-in_err-take_byte g c = record {
   text = IfOk-from_err c.from-residual.result _ c.from-residual.ensures.0;
   after = IfOk-from_err c.from-residual.result _ c.from-residual.ensures.0;
-  limit = c.take-byte.ensures.limit ∙ c.loop-byte.invariant.2;
+  limit = c.take_byte.ensures.limit ∙ c.loop-byte.invariant.2;
 }
 
 pub returns : goal.returns

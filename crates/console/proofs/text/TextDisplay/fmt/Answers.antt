@@ -13,7 +13,7 @@ loop-byte-preserved g c = λ plain.
     let s = c.args.self.now.0.now in
     let i = c.loop-byte.byte-index in
     let before = c.loop-byte.invariant plain in
-    let one = c.in_ok-write-char.ensures.writes before.plain refl in
+    let one = c.in_ok-write_char.ensures.writes before.plain refl in
     has_written_of_eq _ _ _ _ _ (ap (λ b. encodes (take i s) ++ encode b) c.from.ensures ∙ encodes_more s i c.loop-byte-test.true) (has_written_append _ _ _ _ _ _ before one)
 
 pub returns-clause-writes : goal.returns-clause-writes
