@@ -17,8 +17,8 @@ loop-byte-preserved g c =
 
 pub returns-in_err-take_byte : goal.returns-in_err-take_byte
 returns-in_err-take_byte g c = record {
-  text = IfOk-from_err c.from-residual.result _ c.from-residual.ensures.0;
-  after = IfOk-from_err c.from-residual.result _ c.from-residual.ensures.0;
+  text = IfOk-from_err c.from_residual.result _ c.from_residual.ensures.0;
+  after = IfOk-from_err c.from_residual.result _ c.from_residual.ensures.0;
   limit = c.take_byte.ensures.limit ∙ c.loop-byte.invariant.2;
 }
 

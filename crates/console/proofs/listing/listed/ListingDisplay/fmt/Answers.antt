@@ -14,7 +14,7 @@ loop-at-preserved g c = λ plain.
     let l = c.args.self.now in
     let i = c.loop-at.at in
     let before = c.loop-at.invariant plain in
-    let one = c.in_ok-writeln.ensures.shows before.plain refl in
+    let one = c.in_ok-writeln.ensures.writes before.plain refl in
     let inside : i < length (listing_pairs l) = omega (arith, held l) in
     has_written_of_eq _ _ _ _ _ (ap (λ t. positions_text (take i (listing_pairs l)) ++ (t ++ (10 ∷ []))) c.line-line.ensures ∙ positions_more (listing_pairs l) i inside) (has_written_append _ _ _ _ _ _ before one)
 
