@@ -4,7 +4,7 @@ use Rattle.std.specs.declared.cmp.Ordering.TheVariants.{Less}
 use Rattle.ordered.specs.Order.{order, begins}
 use Rattle.names.specs.declared.name.Name.{Name}
 use Rattle.names.specs.Tokens.{tokens, spelled, bytes_of, closed, nameable}
-use Rattle.names.specs.Names.{start_of, tokens_of}
+use Rattle.names.specs.Names.{start_of, tokens_of, same_tokens}
 
 pub record Laws : Type 0 where
   -- tokens are ordered as keys are, and the end comes before every byte
@@ -18,5 +18,6 @@ pub record Laws : Type 0 where
   -- every name stands for tokens of the form of a name, and tokens of that form are their bytes and their end
   pub name_formed : (n : Name) → nameable (tokens_of n) ≡ true
   pub form_spelled : (x : List ℕ) → nameable x ≡ true → spelled (bytes_of x) (closed x) ≡ x
-  -- names that stand for the same tokens do not differ
+  -- names are equal exactly if they stand for the same tokens, and then they do not differ
+  pub equal_tokens : (m n : Name) → Decides (same_tokens m n) (tokens_of m ≡ tokens_of n)
   pub faithful : (m n : Name) → tokens_of m ≡ tokens_of n → (m.start.len ≡ n.start.len) × (m.start.bytes ≡ n.start.bytes) × (m.ended ≡ n.ended)

@@ -1,5 +1,7 @@
 -- The tokens that a name stands for. Assumes nothing.
-use Rattle.std.specs.Prelude.{ℕ, suc, List, Option}
+use Rattle.std.specs.Prelude.{ℕ, suc, Bool, List, Option, nat_eq}
+use Rattle.std.specs.Ordering.{on}
+use Rattle.std.specs.Cmp.Lexicographic.{pointwise}
 use Rattle.std.specs.Option.{option_map}
 use Rattle.ordered.specs.Keys.{content}
 use Rattle.names.specs.declared.name.Name.{Name}
@@ -12,6 +14,10 @@ start_of n = content n.start
 
 abbrev pub tokens_of : Name → List ℕ
 tokens_of n = spelled (start_of n) n.ended
+
+-- whether two names stand for the same tokens
+abbrev pub same_tokens : Name → Name → Bool
+same_tokens = on tokens_of (pointwise nat_eq)
 
 abbrev pub named : Option Name → Option (List ℕ)
 named o = option_map tokens_of o

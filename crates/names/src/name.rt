@@ -4,10 +4,10 @@ ghost use Rattle.std.specs.List.{slice_get};
 ghost use Rattle.ordered.specs.Order.{max_key, begins};
 ghost use Rattle.ordered.specs.Keys.{content};
 ghost use Rattle.names.specs.Tokens.{spelled, good_name};
-ghost use Rattle.names.specs.Names.{start_of, tokens_of, code, coded, named};
+ghost use Rattle.names.specs.Names.{start_of, tokens_of, code, coded, named, same_tokens};
 ghost use Rattle.std.specs.Cmp.Rules.{comparing};
 ghost use Rattle.std.proofs.Common.{rules};
-ghost use Rattle.std.specs.Cmp as Keys;
+ghost use Rattle.std.specs.Cmp.{partial_equiv_from_equiv};
 
 use crate::spelling::{alike, count, is_prefix, token_at};
 use crate::token::Token;
@@ -121,9 +121,9 @@ fn extended(name: &Name, token: Token) -> Option<Name>
 }
 
 impl PartialEq for Name {
-    ghost equals = { λ a b r. Decides r (tokens_of a ≡ tokens_of b) };
+    ghost eq = { same_tokens };
 
-    ghost laws = { Keys.partial_equiv_from_equiv (Prim.search (comparing, rules)) };
+    ghost laws = { partial_equiv_from_equiv (Prim.search (comparing, rules)) };
 
     fn eq(&self, other: &Name) -> bool {
         self.is(other.start(), other.ended)
