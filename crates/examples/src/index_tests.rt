@@ -35,7 +35,7 @@ fn run_in_order(rt: HostRuntime) -> Result<(), Fail> {
     let mut got = [9u8; 5];
     assert_eq!(rt; index.run(b"", None, &mut out, &mut got), Ok((4, false)));
     assert_eq!(rt; got, [1, 2, 3, 4, 9]);
-    assert!(rt; out[2].as_bytes() == b"ab");
+    assert!(rt; out[2].as_bytes() == b"ab".as_slice());
     Ok(())
 }
 

@@ -15,7 +15,7 @@ fn grows_and_closes<I: OrderedIndex<i64> + Drop>(rt: &impl Abort, index: I) -> R
     let mut lots = [0i64; 2];
     assert_eq!(rt; book.list(b"KERN", &mut keys, &mut lots), Ok((2, false)));
     assert_eq!(rt; lots, [5, -30]);
-    assert!(rt; keys[1].as_bytes() == b"KERNWHT-1");
+    assert!(rt; keys[1].as_bytes() == b"KERNWHT-1".as_slice());
     assert_eq!(rt; book.post(b"KERN", b"WHT-1", 30), Ok(0));
     assert_eq!(rt; book.list(b"KERN", &mut keys, &mut lots), Ok((1, false)));
     assert_eq!(rt; book.list(b"ARNE", &mut keys, &mut lots), Ok((0, false)));
