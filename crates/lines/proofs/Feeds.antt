@@ -1,9 +1,9 @@
 -- The lines of an input, as its bytes are fed one by one. Assumes nothing.
-use Rattle.std.proofs.Common.{◌≡◌, ℕ, ◌+◌, ◌<◌, ◌≤◌, Bool, true, false, cond, not, eqb, List, [], ◌∷◌, ◌++◌, map, length, Some, Option, sym, refl, ap, ◌∙◌, ⊎_elim, arith, length-append}
+use Rattle.std.proofs.Common.{◌≡◌, ℕ, ◌<◌, ◌≤◌, Bool, true, false, cond, not, eqb, List, [], ◌∷◌, ◌++◌, map, length, Some, Option, sym, refl, ap, ◌∙◌, ⊎_elim, arith, length-append}
 use Rattle.std.proofs.lemmas.List.{append-nil}
 use Rattle.std.proofs.lemmas.Bool.{cases_lt, lt-ltb, le-ltb, ne_eqb}
 use Rattle.lines.specs.Words.{split, onto}
-use Rattle.lines.specs.Lines.{Reading, grown, fed, max_line}
+use Rattle.lines.specs.Lines.{Reading, grown, max_line}
 use Rattle.lines.specs.Laws.{trimmed, lines, kept, answered}
 use Rattle.lines.proofs.Cuts.{before, before_onto, starts}
 

@@ -1,5 +1,5 @@
 -- How many pairs there are after an insertion and after an erasure, and that each key stands once. Assumes nothing.
-use Rattle.std.proofs.Common.{◌≡◌, ℕ, zero, suc, ◌+◌, ◌<◌, true, false, cond, List, [], ◌∷◌, length, get_or, is_some, Some, None, Option, Ordering, Less, Equal, Greater, sym, refl, ap, ◌∙◌, true≢false, arith}
+use Rattle.std.proofs.Common.{◌≡◌, ℕ, zero, suc, ◌+◌, ◌<◌, cond, List, [], ◌∷◌, length, get_or, is_some, Some, None, Option, Ordering, Less, Equal, Greater, sym, refl, ap, ◌∙◌, true≢false, arith}
 use Rattle.std.specs.Ordering.{is_lt}
 use Rattle.std.proofs.ByRecursion.{All-weaker, All-get_or}
 use Rattle.ordered.specs.Order.{order, by}
