@@ -2,7 +2,7 @@
 use Rattle.std.proofs.Common.{◌≡◌, ℕ, zero, suc, ◌<◌, ◌≤◌, true, false, List, [], ◌∷◌, ◌++◌, length, get_or, take, drop, set, Some, None, Ordering, Less, Equal, Greater, sym, refl, ap, ◌∙◌, subst, true≢false, arith}
 use lib.ListN.{length-map}
 use Rattle.std.specs.Ordering.{is_lt, ordering_reverse}
-use Rattle.std.specs.List.{AllByRecursion as All}
+use Rattle.std.specs.List.{AllByRecursion}
 use Rattle.std.proofs.ByRecursion.{All-weaker}
 use Rattle.std.proofs.lemmas.List.{drop_more, get_or_default}
 use Rattle.ordered.specs.Order.{order, by, ascends, Below, From, Parted}
@@ -18,7 +18,7 @@ pub past : (k i j : List ℕ) → order i k ≡ Greater → order i j ≡ Less �
 past k i j g l = order_flip j k ∙ ap ordering_reverse (order_trans k i j (order_flip k i ∙ ap ordering_reverse g) l)
 
 -- so is what follows k itself
-pub later_past : (k i : List ℕ) (ks : List (List ℕ)) → i ≡ k → All (λ j. order i j ≡ Less) ks → All (λ j. order j k ≡ Greater) ks
+pub later_past : (k i : List ℕ) (ks : List (List ℕ)) → i ≡ k → AllByRecursion (λ j. order i j ≡ Less) ks → AllByRecursion (λ j. order j k ≡ Greater) ks
 later_past k i ks e a = All-weaker (λ j. order i j ≡ Less) (λ j. order j k ≡ Greater) (λ j l. order_flip j k ∙ ap ordering_reverse (ap (λ h. order h j) (sym e) ∙ l)) ks a
 
 greater : (o : Ordering) → is_lt o ≡ false → (o ≡ Equal → ⊥) → o ≡ Greater
@@ -26,37 +26,37 @@ greater Less h n = absurd (true≢false h)
 greater Equal h n = absurd (n refl)
 greater Greater h n = refl
 
-from_at : (k : List ℕ) (ks : List (List ℕ)) (i : ℕ) (e : List ℕ) → All (From k) (drop i ks) → i < length ks → From k (get_or ks i e)
+from_at : (k : List ℕ) (ks : List (List ℕ)) (i : ℕ) (e : List ℕ) → AllByRecursion (From k) (drop i ks) → i < length ks → From k (get_or ks i e)
 from_at k ks i e a l = (rw (drop_more ks i e l) at a).0
 
 module _ {V : Type 0} (k : List ℕ) where
-  lookup_held : (ps : Pairs V) (i : ℕ) (e : List ℕ) (d : V) → All (Below k) (take i (firsts ps)) → i < length ps → order (get_or (firsts ps) i e) k ≡ Equal → lookup ps k ≡ Some (get_or (seconds ps) i d)
+  lookup_held : (ps : Pairs V) (i : ℕ) (e : List ℕ) (d : V) → AllByRecursion (Below k) (take i (firsts ps)) → i < length ps → order (get_or (firsts ps) i e) k ≡ Equal → lookup ps k ≡ Some (get_or (seconds ps) i d)
   lookup_held [] i e d a l h = absurd (none i l)
   lookup_held (p ∷ ps) zero e d a l h = rw h
   lookup_held (p ∷ ps) (suc i) e d a l h = rw a.0 (lookup_held ps i e d a.1 (omega arith) h)
 
-  inserted_held : (ps : Pairs V) (i : ℕ) (e : List ℕ) (v : V) → All (Below k) (take i (firsts ps)) → i < length ps → order (get_or (firsts ps) i e) k ≡ Equal → inserted ps k v ≡ set ps i (k, v)
+  inserted_held : (ps : Pairs V) (i : ℕ) (e : List ℕ) (v : V) → AllByRecursion (Below k) (take i (firsts ps)) → i < length ps → order (get_or (firsts ps) i e) k ≡ Equal → inserted ps k v ≡ set ps i (k, v)
   inserted_held [] i e v a l h = absurd (none i l)
   inserted_held (p ∷ ps) zero e v a l h = rw h
   inserted_held (p ∷ ps) (suc i) e v a l h = rw a.0 (ap (λ qs. p ∷ qs) (inserted_held ps i e v a.1 (omega arith) h))
 
-  erased_held : (ps : Pairs V) (i : ℕ) (e : List ℕ) → All (Below k) (take i (firsts ps)) → i < length ps → order (get_or (firsts ps) i e) k ≡ Equal → erased ps k ≡ take i ps ++ drop (suc i) ps
+  erased_held : (ps : Pairs V) (i : ℕ) (e : List ℕ) → AllByRecursion (Below k) (take i (firsts ps)) → i < length ps → order (get_or (firsts ps) i e) k ≡ Equal → erased ps k ≡ take i ps ++ drop (suc i) ps
   erased_held [] i e a l h = absurd (none i l)
   erased_held (p ∷ ps) zero e a l h = rw h
   erased_held (p ∷ ps) (suc i) e a l h = rw a.0 (ap (λ qs. p ∷ qs) (erased_held ps i e a.1 (omega arith) h))
 
-  pub lookup_past : (ps : Pairs V) → All (λ j. order j k ≡ Greater) (firsts ps) → lookup ps k ≡ None
+  pub lookup_past : (ps : Pairs V) → AllByRecursion (λ j. order j k ≡ Greater) (firsts ps) → lookup ps k ≡ None
   lookup_past [] a = refl
   lookup_past (p ∷ ps) a = rw a.0 (lookup_past ps a.1)
 
-  lookup_missing : (ps : Pairs V) (i : ℕ) (e : List ℕ) → Ascending (firsts ps) → All (Below k) (take i (firsts ps)) → (i < length ps → order (get_or (firsts ps) i e) k ≡ Greater) → lookup ps k ≡ None
+  lookup_missing : (ps : Pairs V) (i : ℕ) (e : List ℕ) → Ascending (firsts ps) → AllByRecursion (Below k) (take i (firsts ps)) → (i < length ps → order (get_or (firsts ps) i e) k ≡ Greater) → lookup ps k ≡ None
   lookup_missing [] i e up a g = refl
   lookup_missing (p ∷ ps) zero e up a g =
       let h : order p.0 k ≡ Greater = g (omega arith) in
       rw h (lookup_past ps (All-weaker (λ j. order p.0 j ≡ Less) (λ j. order j k ≡ Greater) (λ j l. past k p.0 j h l) (firsts ps) up.0))
   lookup_missing (p ∷ ps) (suc i) e up a g = rw a.0 (lookup_missing ps i e up.1 a.1 (λ l. g (omega arith)))
 
-  inserted_missing : (ps : Pairs V) (i : ℕ) (e : List ℕ) (v : V) → All (Below k) (take i (firsts ps)) → (i < length ps → order (get_or (firsts ps) i e) k ≡ Greater) → inserted ps k v ≡ take i ps ++ (k, v) ∷ drop i ps
+  inserted_missing : (ps : Pairs V) (i : ℕ) (e : List ℕ) (v : V) → AllByRecursion (Below k) (take i (firsts ps)) → (i < length ps → order (get_or (firsts ps) i e) k ≡ Greater) → inserted ps k v ≡ take i ps ++ (k, v) ∷ drop i ps
   inserted_missing [] zero e v a g = refl
   inserted_missing [] (suc i) e v a g = refl
   inserted_missing (p ∷ ps) zero e v a g = let h : order p.0 k ≡ Greater = g (omega arith) in rw h
@@ -84,16 +84,16 @@ module _ {V : Type 0} (k : List ℕ) where
 
   -- ---- the list stays in order
 
-  all_inserted : (P : List ℕ → Type 0) (ps : Pairs V) (v : V) → P k → All P (firsts ps) → All P (firsts (inserted ps k v))
+  all_inserted : (P : List ℕ → Type 0) (ps : Pairs V) (v : V) → P k → AllByRecursion P (firsts ps) → AllByRecursion P (firsts (inserted ps k v))
   all_inserted P [] v h a = (h, tt)
   all_inserted P (p ∷ ps) v h a =
-      elim (order p.0 k) as (λ o. All P (firsts (by o (p ∷ inserted ps k v) ((k, v) ∷ ps) ((k, v) ∷ p ∷ ps))))
+      elim (order p.0 k) as (λ o. AllByRecursion P (firsts (by o (p ∷ inserted ps k v) ((k, v) ∷ ps) ((k, v) ∷ p ∷ ps))))
       [ Less ↦ (a.0, all_inserted P ps v h a.1) | Equal ↦ (h, a.1) | Greater ↦ (h, a) ]
 
-  all_erased : (P : List ℕ → Type 0) (ps : Pairs V) → All P (firsts ps) → All P (firsts (erased ps k))
+  all_erased : (P : List ℕ → Type 0) (ps : Pairs V) → AllByRecursion P (firsts ps) → AllByRecursion P (firsts (erased ps k))
   all_erased P [] a = tt
   all_erased P (p ∷ ps) a =
-      elim (order p.0 k) as (λ o. All P (firsts (by o (p ∷ erased ps k) ps (p ∷ erased ps k))))
+      elim (order p.0 k) as (λ o. AllByRecursion P (firsts (by o (p ∷ erased ps k) ps (p ∷ erased ps k))))
       [ Less ↦ (a.0, all_erased P ps a.1) | Equal ↦ a.1 | Greater ↦ (a.0, all_erased P ps a.1) ]
 
   inserted_by : (p : List ℕ × V) (ps : Pairs V) (v : V) (o : Ordering) → order p.0 k ≡ o → Ascending (firsts (p ∷ ps)) → Ascending (firsts (inserted ps k v)) → Ascending (firsts (by o (p ∷ inserted ps k v) ((k, v) ∷ ps) ((k, v) ∷ p ∷ ps)))

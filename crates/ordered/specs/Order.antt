@@ -3,7 +3,7 @@ use Rattle.std.specs.Prelude.{◌≡◌, ℕ, ◌-◌, ◌≤◌, Bool, true, fa
 use Rattle.std.specs.declared.cmp.Ordering.TheVariants.{Less, Equal, Greater}
 use Rattle.std.specs.declared.cmp.Ordering.{Ordering}
 use Rattle.std.specs.Ordering.{is_lt}
-use Rattle.std.specs.List.{list_all, AllByRecursion as All}
+use Rattle.std.specs.List.{list_all, AllByRecursion}
 
 -- the most bytes that a key has
 abbrev pub max_key : ℕ
@@ -42,8 +42,8 @@ From k j = is_lt (order j k) ≡ false
 -- the first p strings are before k, and no other is
 pub record Parted (k : List ℕ) (ks : List (List ℕ)) (p : ℕ) : Type 0 where
   pub inside : p ≤ length ks
-  pub low : All (Below k) (take p ks)
-  pub high : All (From k) (drop p ks)
+  pub low : AllByRecursion (Below k) (take p ks)
+  pub high : AllByRecursion (From k) (drop p ks)
 
 -- the bytes behind len are 0
 abbrev pub Padded : List ℕ → ℕ → Type 0

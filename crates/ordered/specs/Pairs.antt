@@ -5,7 +5,7 @@
 --     written row xs      xs over the front of row, as many as it takes
 use Rattle.std.specs.Prelude.{◌≡◌, ℕ, ◌<◌, ◌≤◌, Bool, true, false, not, ◌&&◌, List, [], ◌∷◌, ◌++◌, map, length, take, drop, Some, None, Ok, Err, filter, Option, Result, slice_index_or, slice_set}
 use Rattle.std.specs.Ordering.{is_lt}
-use Rattle.std.specs.List.{remove, AllByRecursion as All}
+use Rattle.std.specs.List.{remove, AllByRecursion}
 use Rattle.std.specs.List as lists
 use Rattle.ordered.specs.Order.{order, by, begins}
 
@@ -65,8 +65,8 @@ Spot ps k (Err i) = Missing ps k i
 -- the first j keys are before the end, and no other is
 pub record Stopped (end : Option (List ℕ)) (ks : List (List ℕ)) (j : ℕ) : Type 0 where
   pub inside : j ≤ length ks
-  pub low : All (λ k. ahead end k ≡ true) (take j ks)
-  pub high : All (λ k. ahead end k ≡ false) (drop j ks)
+  pub low : AllByRecursion (λ k. ahead end k ≡ true) (take j ks)
+  pub high : AllByRecursion (λ k. ahead end k ≡ false) (drop j ks)
 
 -- the pairs within the bounds are those from the place i on and before j
 pub record Spanned {V : Type 0} (ps : Pairs V) (first : List ℕ) (end : Option (List ℕ)) (i j : ℕ) : Type 0 where

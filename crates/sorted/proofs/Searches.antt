@@ -2,7 +2,7 @@
 use Rattle.std.proofs.Common.{◌≡◌, ℕ, ◌+◌, ◌<◌, true, false, List, map, length, get_or, take, drop, Ordering, Less, Equal, Greater, sym, refl, ap, ◌∙◌, subst, add-one}
 use lib.ListN.{length-map}
 use Rattle.std.specs.Ordering.{is_lt}
-use Rattle.std.specs.List.{AllByRecursion as All}
+use Rattle.std.specs.List.{AllByRecursion}
 use Rattle.std.proofs.lemmas.List.{get_or-map}
 use Rattle.ordered.specs.declared.key.Key.{Key}
 use Rattle.ordered.specs.Order.{order, ascends, Below, From}
@@ -22,8 +22,8 @@ module _ (k : List ℕ) (ks : List Key) (m : ℕ) (x : Key) (up : ascends (map c
   within : m < length (map content ks)
   within = subst (λ n. m < n) (sym (length-map ks content)) l
 
-  pub lower : order (content x) k ≡ Less → All (Below k) (take (m + 1) (map content ks))
+  pub lower : order (content x) k ≡ Less → AllByRecursion (Below k) (take (m + 1) (map content ks))
   lower h = rw add-one (below_upto k (map content ks) m (content x) (ascending_from _ up) within (ap (λ j. order j k) (sym at) ∙ h))
 
-  pub upper : (order (content x) k ≡ Less → ⊥) → All (From k) (drop m (map content ks))
+  pub upper : (order (content x) k ≡ Less → ⊥) → AllByRecursion (From k) (drop m (map content ks))
   upper n = from_on k (map content ks) m (content x) (ascending_from _ up) within (ap (λ j. is_lt (order j k)) (sym at) ∙ not_less _ n)

@@ -1,6 +1,6 @@
 use Rattle.std.proofs.Common.{◌≡◌, ◌≤◌, map, length, drop, sym, ◌∙◌, subst, arith}
 use lib.ListN.{length-map}
-use Rattle.std.specs.List.{AllByRecursion as All}
+use Rattle.std.specs.List.{AllByRecursion}
 use Rattle.std.proofs.lemmas.List.{drop_all}
 use Rattle.ordered.specs.Order.{From}
 use Rattle.ordered.specs.Keys.{content}
@@ -30,5 +30,5 @@ returns c =
     record {
       inside = simp length-map (omega arith);
       low = i.2;
-      high = subst (λ n. All (From c.args.key.now) (drop n (map content c.args.keys.now))) same i.3;
+      high = subst (λ n. AllByRecursion (From c.args.key.now) (drop n (map content c.args.keys.now))) same i.3;
     }

@@ -1,5 +1,5 @@
 use Rattle.std.proofs.Common.{◌-◌, ◌≤◌, map, length, take, drop}
-use Rattle.std.specs.List.{AllByRecursion as All}
+use Rattle.std.specs.List.{AllByRecursion}
 use Rattle.ordered.specs.Order.{Below, From}
 use Rattle.ordered.specs.Keys.{content}
 use Rattle.sorted.proofs.place.place.Given as goal
@@ -7,7 +7,7 @@ use Rattle.sorted.proofs.place.place.Given as goal
 abbrev pub invariant-loop-low : goal.invariant-loop-low
 invariant-loop-low l =
     let ks = map content l.keys in
-    (l.low ≤ l.high) × (l.high ≤ length l.keys) × All (Below l.key) (take l.low ks) × All (From l.key) (drop l.high ks)
+    (l.low ≤ l.high) × (l.high ≤ length l.keys) × AllByRecursion (Below l.key) (take l.low ks) × AllByRecursion (From l.key) (drop l.high ks)
 
 abbrev pub decreases-loop-low : goal.decreases-loop-low
 decreases-loop-low l = l.high - l.low
