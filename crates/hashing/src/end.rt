@@ -2,7 +2,7 @@
 ghost use Rattle.std.specs.Prelude.{◌≡◌};
 ghost use Rattle.hashing.specs.Ends.{nothing_fed, tail_of, tail_number, end_hash};
 ghost use Rattle.hashing.specs.Tails.{tail_append, whole_tail};
-ghost use Rattle.std.proofs.Common.{rules};
+ghost use Rattle.std.proofs.Common.{refl};
 
 use crate::string_hash::StringHash;
 
@@ -38,7 +38,7 @@ impl StringHash for End {
 
     ghost hashed = { end_hash };
 
-    ghost nothing = { Prim.search rules };
+    ghost nothing = { λ t. refl };
 
     ghost joined = { λ t a b. tail_append t a b };
 

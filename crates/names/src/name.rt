@@ -5,8 +5,7 @@ ghost use Rattle.ordered.specs.Order.{max_key, begins};
 ghost use Rattle.ordered.specs.Keys.{content};
 ghost use Rattle.names.specs.Tokens.{spelled, good_name};
 ghost use Rattle.names.specs.Names.{start_of, tokens_of, code, coded, named, same_tokens};
-ghost use Rattle.std.specs.Cmp.Rules.{comparing};
-ghost use Rattle.std.proofs.Common.{rules};
+ghost use Rattle.std.proofs.lemmas.Cmp.{on_equiv, nat_list_eq_equiv};
 ghost use Rattle.std.specs.Cmp.{partial_equiv_from_equiv};
 
 use crate::spelling::{alike, count, is_prefix, token_at};
@@ -123,7 +122,7 @@ fn extended(name: &Name, token: Token) -> Option<Name>
 impl PartialEq for Name {
     ghost eq = { same_tokens };
 
-    ghost laws = { partial_equiv_from_equiv (Prim.search (comparing, rules)) };
+    ghost laws = { partial_equiv_from_equiv (on_equiv tokens_of nat_list_eq_equiv) };
 
     fn eq(&self, other: &Name) -> bool {
         self.is(other.start(), other.ended)
@@ -131,5 +130,5 @@ impl PartialEq for Name {
 }
 
 impl Eq for Name {
-    ghost laws = { Prim.search (comparing, rules) };
+    ghost laws = { on_equiv tokens_of nat_list_eq_equiv };
 }
