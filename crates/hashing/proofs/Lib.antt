@@ -1,4 +1,3 @@
-pub mod Folds
 pub mod Registers
 pub mod Products
 pub mod Lawful

@@ -2,7 +2,7 @@
 use Rattle.std.proofs.Common.{◌≡◌, ℕ, ◌+◌, ◌-◌, ◌*◌, ◌/◌, ◌%◌, ◌^◌, ◌<◌, ◌≤◌, List, [], ◌∷◌, ◌++◌, fold, sym, ap, ◌∙◌, arith}
 use lib.Bits.{bit_xor, xor_assoc, xor_lt, xor_self, xor_zero_r}
 use lib.Arith.{digits_mod}
-use Rattle.std.proofs.iter.runs.Lists.{fold-append}
+use Rattle.std.proofs.lemmas.List.Sums.{fold_push}
 use Rattle.hashing.specs.Fnv.{fnv_start, fnv_step, fnv_1a}
 
 steps_fit : (s : ℕ) (bytes : List ℕ) → s < 2 ^ 32 → fold fnv_step s bytes < 2 ^ 32
@@ -23,12 +23,12 @@ undone x h =
     ap (λ n. n % 2 ^ 32) e ∙ digits_mod t h
 
 xor_twice : (h b : ℕ) → bit_xor (bit_xor h b) b ≡ h
-xor_twice h b = xor_assoc h b b ∙ ap (bit_xor h) (xor_self b) ∙ xor_zero_r h
+xor_twice h b = simp (xor_assoc, xor_self, xor_zero_r)
 
 before : (h b : ℕ) → h < 2 ^ 32 → b < 256 → bit_xor ((fnv_step h b * 899433627) % 2 ^ 32) b ≡ h
 before h b l k = ap (λ x. bit_xor x b) (undone (bit_xor h b) (xor_lt 32 h b l (omega arith))) ∙ xor_twice h b
 
 pub fnv_apart : (a b : List ℕ) (x : ℕ) → x < 256 → fnv_1a (a ++ x ∷ []) ≡ fnv_1a (b ++ x ∷ []) → fnv_1a a ≡ fnv_1a b
 fnv_apart a b x l e =
-    let stepped : fnv_step (fnv_1a a) x ≡ fnv_step (fnv_1a b) x = sym (fold-append fnv_step fnv_start a (x ∷ [])) ∙ e ∙ fold-append fnv_step fnv_start b (x ∷ []) in
+    let stepped : fnv_step (fnv_1a a) x ≡ fnv_step (fnv_1a b) x = sym (fold_push fnv_step fnv_start a x) ∙ e ∙ fold_push fnv_step fnv_start b x in
     sym (before (fnv_1a a) x (fnv_fits a) l) ∙ ap (λ n. bit_xor ((n * 899433627) % 2 ^ 32) x) stepped ∙ before (fnv_1a b) x (fnv_fits b) l

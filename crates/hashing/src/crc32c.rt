@@ -59,16 +59,6 @@ fn step(state: u32, byte: u8) -> u32
     (state >> 8) ^ entry(low ^ byte)
 }
 
-fn steps(state: u32, bytes: &[u8]) -> u32
-    ensures { result ≡ fold crc_step state bytes.now }
-{
-    let mut crc = state;
-    for byte in bytes {
-        crc = step(crc, *byte);
-    }
-    crc
-}
-
 impl StringHash for Crc32c {
     type State = u32;
 
@@ -91,7 +81,7 @@ impl StringHash for Crc32c {
     }
 
     fn feed(state: u32, bytes: &[u8]) -> u32 {
-        steps(state, bytes)
+        bytes.iter().copied().fold(state, step)
     }
 
     fn number(state: u32) -> u32 {

@@ -15,15 +15,18 @@ pub struct Tail {
     last: u8,
 }
 
-fn followed(state: Tail, bytes: &[u8]) -> Tail
-    ensures { result ≡ tail_of state bytes.now }
-{
-    match bytes {
-        [] => state,
-        [.., last] => Tail {
-            count: state.count.wrapping_add((bytes.len() % 256) as u8),
-            last: *last,
-        },
+impl Tail {
+    // The state after further bytes, by the two cases of `tail_of`.
+    fn followed(self, bytes: &[u8]) -> Tail
+        ensures { result ≡ tail_of self bytes.now }
+    {
+        match bytes {
+            [] => self,
+            [.., last] => Tail {
+                count: self.count.wrapping_add((bytes.len() % 256) as u8),
+                last: *last,
+            },
+        }
     }
 }
 
@@ -40,16 +43,16 @@ impl StringHash for End {
 
     ghost nothing = { λ t. refl };
 
-    ghost joined = { λ t a b. tail_append t a b };
+    ghost joined = { tail_append };
 
-    ghost whole = { λ bs. whole_tail bs };
+    ghost whole = { whole_tail };
 
     fn empty() -> Tail {
         Tail { count: 0, last: 0 }
     }
 
     fn feed(state: Tail, bytes: &[u8]) -> Tail {
-        followed(state, bytes)
+        state.followed(bytes)
     }
 
     fn number(state: Tail) -> u32 {

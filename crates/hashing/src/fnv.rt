@@ -12,14 +12,10 @@ const OFFSET: u32 = 2166136261;
 
 const PRIME: u32 = 16777619;
 
-fn steps(state: u32, bytes: &[u8]) -> u32
-    ensures { result ≡ fold fnv_step state bytes.now }
+fn step(state: u32, byte: u8) -> u32
+    ensures { result ≡ fnv_step state byte }
 {
-    let mut hash = state;
-    for byte in bytes {
-        hash = (hash ^ u32::from(*byte)).wrapping_mul(PRIME);
-    }
-    hash
+    (state ^ u32::from(byte)).wrapping_mul(PRIME)
 }
 
 impl StringHash for Fnv1a {
@@ -44,7 +40,7 @@ impl StringHash for Fnv1a {
     }
 
     fn feed(state: u32, bytes: &[u8]) -> u32 {
-        steps(state, bytes)
+        bytes.iter().copied().fold(state, step)
     }
 
     fn number(state: u32) -> u32 {

@@ -31,7 +31,7 @@ pub trait StringHash {
     ghost whole: { (bs : List ℕ) → numbered (fed start bs) ≡ hashed bs };
 }
 
-// The number of a string.
+// The number of a string. By `hash_joined` an empty string would be fed too.
 pub fn hash<H: StringHash>(bytes: &[u8]) -> u32
     ensures { result ≡ H.StringHash.hashed bytes.now }
 {

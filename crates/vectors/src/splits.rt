@@ -4,16 +4,13 @@ ghost use Rattle.std.specs.Prelude.{◌≡◌, ◌+◌, ◌≤◌, true, length}
 use hashing::{StringHash, hash, hash_joined};
 
 // How many splits of a string have the number of the whole: all of them.
+#[tactic(auto, using(crate::proofs::Kept::all_kept))]
 pub(crate) fn agreeing_splits<H: StringHash>(bytes: &[u8]) -> usize
     ensures { result ≡ length bytes.now + 1 }
 {
-    let mut agree = 0;
-    for at in 0..=bytes.len() {
-        if split_agrees::<H>(bytes, at) {
-            agree += 1;
-        }
-    }
-    agree
+    (0..=bytes.len())
+        .filter(|at| split_agrees::<H>(bytes, *at))
+        .count()
 }
 
 // Whether a string that is split at a place has the number of the whole.
@@ -21,5 +18,6 @@ fn split_agrees<H: StringHash>(bytes: &[u8], at: usize) -> bool
     requires { at ≤ length bytes.now }
     ensures { result ≡ true }
 {
-    hash_joined::<H>(&bytes[0..at], &bytes[at..]) == hash::<H>(bytes)
+    let (front, back) = bytes.split_at(at);
+    hash_joined::<H>(front, back) == hash::<H>(bytes)
 }

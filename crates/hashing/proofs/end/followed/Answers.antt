@@ -1,6 +1,0 @@
-use Rattle.std.proofs.Common.{arith, ltb-false}
-use Rattle.hashing.specs.Tails.{tail_is}
-use Rattle.hashing.proofs.end.followed.Goals as goal
-
-pub returns-in-len1-up : goal.returns-in-len1-up
-returns-in-len1-up c = tail_is c.args.state c.args.bytes.now (omega (arith, ltb-false))
