@@ -5,8 +5,6 @@ pub mod Outcomes
 pub mod Spans
 pub mod Copies
 pub mod Contents
-pub mod Joins
 pub mod Lookups
-pub mod Counts
 pub mod Fronts
 pub mod Lawful

@@ -5,13 +5,13 @@ ghost use Rattle.ordered.specs.Numbers.{index_number};
 #[derive(Clone, Copy, PartialEq, Eq, Debug)]
 pub enum IndexFault {
     // A key of more than 24 bytes.
-    KeyTooLong,
+    KeyTooLong = 11,
     // A new key, where as many pairs are held as the limit allows.
-    Full,
+    Full = 12,
     // The key to drop is not held.
-    NotHeld,
+    NotHeld = 13,
     // The rows of a run differ in length.
-    UnequalRows,
+    UnequalRows = 14,
 }
 
 impl IndexFault {
@@ -19,11 +19,6 @@ impl IndexFault {
     pub fn number(self) -> u8
         ensures { result ≡ index_number self }
     {
-        match self {
-            IndexFault::KeyTooLong => 11,
-            IndexFault::Full => 12,
-            IndexFault::NotHeld => 13,
-            IndexFault::UnequalRows => 14,
-        }
+        self as u8
     }
 }

@@ -12,13 +12,8 @@ pub trait OrderedIndex<V: Copy> {
     // The pairs that are held, in ascending order of their keys.
     ghost pairs: { Self → Pairs V };
 
-    // The most pairs that may be held.
+    // The most pairs that may be held: a number of the value and not of its type, so each change says that it stays.
     ghost limit: { Self → ℕ };
-
-    // Proofs that each `impl` gives: the keys ascend strictly, and there are at most `limit`.
-    ghost ascending: { (s : Self) → ascends (firsts (pairs s)) ≡ true };
-
-    ghost fits: { (s : Self) → length (pairs s) ≤ limit s };
 
     // The key's value, if it is held.
     fn get(&self, key: &[u8]) -> Result<Option<V>, IndexFault>
@@ -41,7 +36,9 @@ pub trait OrderedIndex<V: Copy> {
         ensures { result ≡ length (pairs self.now) };
 
     // Writes the pairs from `first` on and before `end` into the rows, as many as they take:
-    // how many were written, and whether more remain.
+    // how many were written, and whether more remain. A pair, since both are always told.
+    // Two bounds and two rows, and a struct of neither: each call would have to make it, and rows of unequal length are
+    // refused and not ruled out by a type.
     fn run(
         &self,
         first: &[u8],
@@ -52,4 +49,9 @@ pub trait OrderedIndex<V: Copy> {
         ensures reply { result ≡ run_reply (pairs self.now) first.now (bound end.entry) (length keys.old) (length values.old) }
         ensures keys { map content keys.new ≡ run_keys result (pairs self.now) first.now (bound end.entry) (map content keys.old) }
         ensures values { values.new ≡ run_values result (pairs self.now) first.now (bound end.entry) values.old };
+
+    // The keys ascend strictly, and there are at most `limit` pairs.
+    ghost ascending: { (s : Self) → ascends (firsts (pairs s)) ≡ true };
+
+    ghost fits: { (s : Self) → length (pairs s) ≤ limit s };
 }

@@ -1,4 +1,3 @@
 mod Searches
 mod Shifts
-mod Zips
 mod Spots

@@ -1,69 +1,86 @@
--- The pairs that sound rows hold, and a search among them. Assumes nothing.
-use Rattle.std.proofs.Common.{◌≡◌, ℕ, ◌-◌, ◌<◌, ◌≤◌, true, List, map, length, get_or, take, Equal, sym, ap, ◌∙◌, subst, arith}
-use Rattle.std.proofs.lemmas.List.{get_or-map, get_or-take, length-take-le}
-use Rattle.std.proofs.lemmas.Slice.Zip.{firsts-zip, seconds-zip}
+-- The pairs that sound rows hold, what an edit of the rows makes of them, and a search among them. Assumes nothing.
+use Rattle.std.proofs.Common.{◌≡◌, ℕ, ◌<◌, true, List, [], ◌∷◌, map, length, get_or, set, take, Equal, Greater, Ok, Err, Result, sym, refl, ap, ◌∙◌, arith, length-take}
+use lib.ListN.{length-map}
+use lib.Seq.{take-set-lt}
+use Rattle.std.specs.List.{zip, insert, remove}
+use Rattle.std.specs.List.Sorted.{IsBinarySearchResult, IsSearchInRange}
+use Rattle.std.proofs.lemmas.List.{drop-map, get_or-take, get_or_default, map-append, map-set, set-get_or, take-map}
+use Rattle.std.proofs.lemmas.Slice.Zip.{firsts-zip, length-zip, seconds-zip}
 use Rattle.ordered.specs.declared.key.Key.{Key}
 use Rattle.sorted.specs.declared.rows.Rows.{Rows}
-use Rattle.ordered.specs.Order.{order, ascends, Parted}
+use Rattle.ordered.specs.Order.{order, ascends, Below}
 use Rattle.ordered.specs.Keys.{content}
-use Rattle.ordered.specs.Pairs.{firsts, seconds, Held, Missing}
-use Rattle.sorted.specs.Rows.{pairs_of, Shape}
+use Rattle.ordered.specs.Pairs.{Pairs, firsts, seconds, inserted, erased, Spot}
+use Rattle.sorted.specs.Rows.{pairs_of}
+use Rattle.ordered.proofs.Ascents.{inserted_ascends, erased_ascends}
 use Rattle.ordered.proofs.Places.{held, missing}
-use Rattle.sorted.proofs.Zips.{even, both_length}
+use Rattle.sorted.proofs.Searches.{all_low, all_high, read_there, met, rises}
 
-module _ {V : Type 0} (r : Rows V) (s : Shape r) where
-  abbrev keys : List (List ℕ)
-  keys = map content (take r.len r.keys.now)
+module _ {A B : Type 0} (f : A → B) (xs : List A) (i : ℕ) where
+  map_inserted : (x : A) → map f (insert xs i x) ≡ insert (map f xs) i (f x)
+  map_inserted x = simp (map-append, take-map, drop-map)
 
-  in_values : r.len ≤ length r.values.now
-  in_values = omega arith
+  map_removed : map f (remove xs i) ≡ remove (map f xs) i
+  map_removed = simp (map-append, take-map, drop-map)
 
-  level : length keys ≡ length (take r.len r.values.now)
-  level = even content r.keys.now r.values.now r.len s.0 in_values
+unzipped : {V : Type 0} (ps : Pairs V) → zip (firsts ps) (seconds ps) ≡ ps
+unzipped [] = refl
+unzipped (p ∷ ps) = ap (λ qs. p ∷ qs) (unzipped ps)
 
-  pub firsts_are : firsts (pairs_of r) ≡ keys
-  firsts_are = firsts-zip keys (take r.len r.values.now) (sym level)
+-- two rows are the pairs ps
+paired : {V : Type 0} (ks : List (List ℕ)) (vs : List V) (ps : Pairs V) → ks ≡ firsts ps → vs ≡ seconds ps → zip ks vs ≡ ps
+paired ks vs ps p q = (λ i. zip (p i) (q i)) ∙ unzipped ps
+
+module _ {V : Type 0} (r : Rows V) where
+  pub firsts_are : firsts (pairs_of r) ≡ map content (take r.len r.keys.now)
+  firsts_are = firsts-zip _ (take r.len r.values.now) (simp (length-map, length-take) (omega arith))
 
   pub seconds_are : seconds (pairs_of r) ≡ take r.len r.values.now
-  seconds_are = seconds-zip keys (take r.len r.values.now) (sym level)
+  seconds_are = seconds-zip (map content (take r.len r.keys.now)) _ (simp (length-map, length-take) (omega arith))
 
   pub pairs_long : length (pairs_of r) ≡ r.len
-  pairs_long = both_length content r.keys.now r.values.now r.len s.0 in_values
+  pairs_long = simp (length-zip, length-map, length-take) (omega arith)
 
-  -- as `&keys[0..len]` has it
-  whole : r.len - 0 ≡ r.len
-  whole = omega arith
+  pub both_inserted : (ks : List Key) (vs : List V) (i : ℕ) (k : Key) (v : V) → ks ≡ insert (take r.len r.keys.now) i k → vs ≡ insert (take r.len r.values.now) i v → zip (map content ks) vs ≡ insert (pairs_of r) i (content k, v)
+  both_inserted ks vs i k v p q =
+      paired (map content ks) vs (insert (pairs_of r) i (content k, v))
+      (ap (map content) p ∙ map_inserted content (take r.len r.keys.now) i k ∙ sym (map_inserted (λ p. p.0) (pairs_of r) i (content k, v) ∙ ap (λ js. insert js i (content k)) firsts_are))
+      (q ∙ sym (map_inserted (λ p. p.1) (pairs_of r) i (content k, v) ∙ ap (λ ws. insert ws i v) seconds_are))
 
-  pub rows_ascend : ascends (firsts (pairs_of r)) ≡ true → ascends (map content (take (r.len - 0) r.keys.now)) ≡ true
-  rows_ascend up = ap (λ n. ascends (map content (take n r.keys.now))) whole ∙ ap ascends (sym firsts_are) ∙ up
+  pub both_removed : (ks : List Key) (vs : List V) (i : ℕ) → ks ≡ remove (take r.len r.keys.now) i → vs ≡ remove (take r.len r.values.now) i → zip (map content ks) vs ≡ remove (pairs_of r) i
+  both_removed ks vs i p q =
+      paired (map content ks) vs (remove (pairs_of r) i)
+      (ap (map content) p ∙ map_removed content (take r.len r.keys.now) i ∙ sym (map_removed (λ p. p.0) (pairs_of r) i ∙ ap (λ js. remove js i) firsts_are))
+      (q ∙ sym (map_removed (λ p. p.1) (pairs_of r) i ∙ ap (λ ws. remove ws i) seconds_are))
 
-  pub rows_parted : (k : List ℕ) (at : ℕ) → Parted k (map content (take (r.len - 0) r.keys.now)) at → Parted k (firsts (pairs_of r)) at
-  rows_parted k at p = subst (λ ks. Parted k ks at) (ap (λ n. map content (take n r.keys.now)) whole ∙ sym firsts_are) p
+  pub value_set : (i : ℕ) (k : List ℕ) (v : V) → i < r.len → get_or (firsts (pairs_of r)) i k ≡ k → zip (map content (take r.len r.keys.now)) (take r.len (set r.values.now i v)) ≡ set (pairs_of r) i (k, v)
+  value_set i k v l h =
+      paired _ _ (set (pairs_of r) i (k, v))
+      (sym (map-set (λ p. p.0) (pairs_of r) i (k, v) ∙ ap (set (firsts (pairs_of r)) i) (sym h) ∙ set-get_or (firsts (pairs_of r)) i k ∙ firsts_are))
+      (take-set-lt r.len r.values.now i v l ∙ sym (map-set (λ p. p.1) (pairs_of r) i (k, v) ∙ ap (λ ws. set ws i v) seconds_are))
 
-  -- x is the key at a place in use
-  key_at : (at : ℕ) (x : Key) → at < r.len → x ≡ get_or r.keys.now at x → get_or (firsts (pairs_of r)) at (content x) ≡ content x
-  key_at at x l read =
-      let inside : at < length (take r.len r.keys.now) = omega (arith, length-take-le r.len r.keys.now s.0) in
-      ap (λ ks. get_or ks at (content x)) firsts_are ∙ get_or-map content (take r.len r.keys.now) at x (content x) inside
-      ∙ ap content (get_or-take r.len r.keys.now at x l ∙ sym read)
+  -- a search among the keys ks, which are those of the pairs
+  pub searched : (ks : List Key) → map content ks ≡ firsts (pairs_of r) → (k : List ℕ) → ascends (firsts (pairs_of r)) ≡ true → (at : Result ℕ ℕ) → IsSearchInRange at (length ks) → IsBinarySearchResult (λ x. order (content x) k) ks at → Spot (pairs_of r) k at
+  searched ks own k up at l e = by_case at l e
+    where
+      ascend : ascends (map content ks) ≡ true
+      ascend = ap ascends own ∙ up
 
-  -- x is the value there
-  pub value_at : (at : ℕ) (x : V) → at < r.len → x ≡ get_or r.values.now at x → x ≡ get_or (seconds (pairs_of r)) at x
-  value_at at x l read = read ∙ sym (get_or-take r.len r.values.now at x l) ∙ ap (λ vs. get_or vs at x) (sym seconds_are)
+      long : length ks ≡ length (pairs_of r)
+      long = sym (length-map ks content) ∙ ap length own ∙ length-map (pairs_of r) (λ p. p.0)
 
-  pub found : (k : List ℕ) (at : ℕ) (x : Key) → Parted k (map content (take (r.len - 0) r.keys.now)) at → at < r.len → x ≡ get_or r.keys.now at x → order (content x) k ≡ Equal → Held (pairs_of r) k at
-  found k at x p l read e = held k (pairs_of r) at (content x) (rows_parted k at p) (omega (arith, pairs_long)) (ap (λ j. order j k) (key_at at x l read) ∙ e)
+      by_case : (at : Result ℕ ℕ) → IsSearchInRange at (length ks) → IsBinarySearchResult (λ x. order (content x) k) ks at → Spot (pairs_of r) k at
+      by_case (Ok i) l e = held k (pairs_of r) i (omega (arith, long)) (rw (sym own) (met k ks ascend i l e)) (rw (sym own) (read_there content (λ j. order j k ≡ Equal) ks i l e))
+      by_case (Err i) l e =
+          let point = e (rises k ks ascend) in
+          missing k (pairs_of r) i (omega (arith, long)) (rw (sym own) (all_low content (Below k) ks i point.0)) (rw (sym own) (all_high content (λ j. order j k ≡ Greater) ks i point.1))
 
-  pub absent : (k : List ℕ) (at : ℕ) (x : Key) → ascends (firsts (pairs_of r)) ≡ true → Parted k (map content (take (r.len - 0) r.keys.now)) at → x ≡ get_or r.keys.now at x → (order (content x) k ≡ Equal → ⊥) → Missing (pairs_of r) k at
-  absent k at x up p read n =
-      missing k (pairs_of r) at (content x) up (rows_parted k at p)
-      (λ l e. n (ap (λ j. order j k) (sym (key_at at x (omega (arith, pairs_long)) read)) ∙ e))
+-- a value that is read of the rows is read of the pairs
+pub ruleset reads = (seconds_are, get_or-take, get_or_default)
 
-  pub at_end : (k : List ℕ) (at : ℕ) → ascends (firsts (pairs_of r)) ≡ true → Parted k (map content (take (r.len - 0) r.keys.now)) at → r.len ≤ at → Missing (pairs_of r) k at
-  at_end k at up p past = missing k (pairs_of r) at k up (rows_parted k at p) (λ l e. let z : ⊥ = omega (arith, pairs_long) in z)
+-- an edit leaves the keys in order; the first part shows the call that is made
+pub still_inserted : {V : Type 0} (k : List ℕ) (ps : Pairs V) (v : V) → ascends (firsts ps) ≡ true → (inserted ps k v ≡ inserted ps k v) × (ascends (firsts (inserted ps k v)) ≡ true)
+still_inserted k ps v up = (refl, inserted_ascends k ps v up)
 
-  pub held_inside : (k : List ℕ) (at : ℕ) → Held (pairs_of r) k at → at < r.len
-  held_inside k at h = omega (arith, pairs_long)
-
-  pub missing_inside : (k : List ℕ) (at : ℕ) → Missing (pairs_of r) k at → at ≤ r.len
-  missing_inside k at h = omega (arith, pairs_long)
+pub still_erased : {V : Type 0} (k : List ℕ) (ps : Pairs V) → ascends (firsts ps) ≡ true → (erased ps k ≡ erased ps k) × (ascends (firsts (erased ps k)) ≡ true)
+still_erased k ps up = (refl, erased_ascends k ps up)

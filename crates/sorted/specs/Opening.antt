@@ -3,7 +3,8 @@ use Rattle.std.specs.Prelude.{ℕ, Bool, cond, ◌&&◌, Ok, Err, Result, ◌==�
 use Rattle.sorted.specs.declared.opening.Opening.{Opening}
 use Rattle.sorted.specs.declared.opening.check.OpenFault.{OpenFault}
 use Rattle.sorted.specs.declared.opening.check.OpenFault.TheVariants.{BadRows}
-use Rattle.sorted.specs.Rows.{places, max_limit}
+use Rattle.sorted.specs.Limits.{max_limit}
+use Rattle.sorted.specs.Rows.{places}
 
 -- the rows' lengths are equal, at least 1 and at most 4096
 abbrev pub openable : ℕ → ℕ → Bool

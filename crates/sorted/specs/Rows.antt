@@ -1,17 +1,12 @@
 -- What lent rows hold, and what always holds of them. Assumes nothing.
-use Rattle.std.specs.Prelude.{◌≡◌, ℕ, ◌≤◌, true, map, length, take}
+use Rattle.std.specs.Prelude.{ℕ, ◌≤◌, map, length, take}
 use Rattle.std.proofs.Common.{arith, length-take}
 use Rattle.std.proofs.lemmas.List.{length-map}
 use Rattle.std.specs.List.{zip}
 use Rattle.std.proofs.lemmas.Slice.Zip.{length-zip}
 use Rattle.sorted.specs.declared.rows.Rows.{Rows}
-use Rattle.ordered.specs.Order.{ascends}
 use Rattle.ordered.specs.Keys.{content}
-use Rattle.ordered.specs.Pairs.{Pairs, firsts}
-
--- the most places that rows have
-abbrev pub max_limit : ℕ
-max_limit = 4096
+use Rattle.ordered.specs.Pairs.{Pairs}
 
 module _ {V : Type 0} where
   abbrev pub places : Rows V → ℕ
@@ -19,12 +14,6 @@ module _ {V : Type 0} where
 
   abbrev pub pairs_of : Rows V → Pairs V
   pairs_of r = zip (map content (take r.len r.keys.now)) (take r.len r.values.now)
-
-  abbrev pub Shape : Rows V → Type 0
-  Shape r = (r.len ≤ places r) × (length r.values.now ≡ places r) × (1 ≤ places r) × (places r ≤ max_limit)
-
-  abbrev pub Sound : Rows V → Type 0
-  Sound r = Shape r × (ascends (firsts (pairs_of r)) ≡ true)
 
   pub rows_fit : (r : Rows V) → length (pairs_of r) ≤ places r
   rows_fit r = simp (length-zip, length-map, length-take) (omega arith)

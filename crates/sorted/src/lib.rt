@@ -1,7 +1,6 @@
 // A sorted row: an ordered index whose pairs lie in order in one row of keys and one of values.
 #![tactic(auto)]
 
-mod calls;
 mod opening;
 mod place;
 mod rows;

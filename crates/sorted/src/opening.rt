@@ -1,6 +1,4 @@
 // Rows that passed the check of an opening. Only the check makes this type.
-ghost use Rattle.sorted.specs.Rows.{Shape};
-
 use crate::rows::Rows;
 
 mod check;
@@ -10,5 +8,4 @@ pub use check::OpenFault;
 #[derive(Drop)]
 pub struct Opening<'a, V> {
     pub(crate) rows: Rows<'a, V>,
-    ghost ok: { Shape rows },
 }

@@ -23,6 +23,7 @@ impl Key {
     }
 
     // The key of the given bytes.
+    // Not a TryFrom: `b"A"` is a `&[u8; 1]`, which this takes and a `TryFrom<&[u8]>` does not.
     pub fn new(bytes: &[u8]) -> Result<Key, IndexFault>
         ensures { contents result ≡ key_reply bytes.now }
     {
@@ -46,7 +47,7 @@ impl Key {
         let at = front.len();
         let len = at + back.len();
         let mut bytes = [0; Key::MAX];
-        bytes[0..at].copy_from_slice(front);
+        bytes[..at].copy_from_slice(front);
         bytes[at..len].copy_from_slice(back);
         Key {
             bytes,
@@ -58,13 +59,15 @@ impl Key {
         ensures bytes { result.now ≡ content self.now }
         ensures short { length result.now ≤ max_key }
     {
-        &self.bytes[0..self.len as usize]
+        &self.bytes[..self.len as usize]
     }
 
+    // The order of the key and a byte string, which need not be a key: so not an `Ord`.
+    #[tactic(auto, using(crate::proofs::Orders::order_lex))]
     pub fn order(&self, bytes: &[u8]) -> Ordering
         ensures { result ≡ order (content self.now) bytes.now }
     {
-        compared(self.as_bytes(), bytes)
+        self.as_bytes().cmp(&bytes)
     }
 }
 
@@ -74,10 +77,4 @@ fn too_long(front: &[u8], back: &[u8]) -> bool
     ensures fits { result ≡ false → length front.now + length back.now ≤ max_key }
 {
     front.len() > Key::MAX || back.len() > Key::MAX - front.len()
-}
-
-fn compared(a: &[u8], b: &[u8]) -> Ordering
-    ensures { result ≡ order a.now b.now }
-{
-    a.cmp(&b)
 }

@@ -11,7 +11,7 @@ use ordered::Key;
 #[derive(Clone, Copy, PartialEq, Eq, Debug)]
 pub enum OpenFault {
     // There is no place, there are over 4,096, or the rows differ in length.
-    BadRows,
+    BadRows = 1,
 }
 
 impl OpenFault {
@@ -19,9 +19,7 @@ impl OpenFault {
     pub fn number(self) -> u8
         ensures { result ≡ open_number self }
     {
-        match self {
-            OpenFault::BadRows => 1,
-        }
+        self as u8
     }
 }
 
@@ -32,7 +30,7 @@ impl<'a, V: Copy> Opening<'a, V> {
     pub fn check(keys: &'a mut [Key], values: &'a mut [V]) -> Result<Opening<'a, V>, OpenFault>
         ensures { limits result ≡ opening (length keys.old) (length values.old) }
     {
-        if keys.len() == 0 || keys.len() > MAX_LIMIT || keys.len() != values.len() {
+        if keys.is_empty() || keys.len() > MAX_LIMIT || keys.len() != values.len() {
             return Err(OpenFault::BadRows);
         }
         Ok(Opening {

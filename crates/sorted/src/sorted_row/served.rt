@@ -23,24 +23,25 @@ impl<V: Copy> OrderedIndex<V> for SortedRow<'_, V> {
 
     ghost limit = { λ s. places s.rows };
 
-    ghost ascending = { λ s. s.ok.1 };
+    ghost ascending = { λ s. s.sorted };
 
     ghost fits = { λ s. rows_fit s.rows };
 
     fn get(&self, key: &[u8]) -> Result<Option<V>, IndexFault> {
-        self.rows.get(key)
+        self.look_up(key)
     }
 
     fn put(&mut self, key: &[u8], value: V) -> Result<Option<V>, IndexFault> {
-        self.rows.put(key, value)
+        self.hold(key, value)
     }
 
     fn drop(&mut self, key: &[u8]) -> Result<V, IndexFault> {
-        self.rows.drop(key)
+        self.let_go(key)
     }
 
+    #[tactic(auto, using(crate::proofs::Spots::pairs_long))]
     fn count(&self) -> usize {
-        self.rows.count()
+        self.rows.len
     }
 
     fn run(
@@ -50,6 +51,6 @@ impl<V: Copy> OrderedIndex<V> for SortedRow<'_, V> {
         keys: &mut [Key],
         values: &mut [V],
     ) -> Result<(usize, bool), IndexFault> {
-        self.rows.run(first, end, keys, values)
+        self.copy_run(first, end, keys, values)
     }
 }
