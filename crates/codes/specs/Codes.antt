@@ -1,5 +1,5 @@
 -- What a good code and a good member are, as byte strings. Assumes nothing.
-use Rattle.std.specs.Prelude.{ℕ, Bool, cond, ◌&&◌, ◌||◌, List, length, Some, None, Option, ◌==◌, nat_le}
+use Rattle.std.specs.Prelude.{ℕ, Bool, ◌&&◌, ◌||◌, List, length, ◌==◌, nat_le}
 use Rattle.std.specs.List.{list_all}
 
 -- A to Z, or 0 to 9
@@ -23,9 +23,3 @@ is_code s = nat_le 1 (length s) && nat_le (length s) max_code && list_all code_b
 -- four letters or digits
 abbrev pub is_member : List ℕ → Bool
 is_member s = length s == member_length && list_all letter_or_digit s
-
-abbrev pub good_code : List ℕ → Option (List ℕ)
-good_code s = cond (is_code s) (Some s) None
-
-abbrev pub good_member : List ℕ → Option (List ℕ)
-good_member s = cond (is_member s) (Some s) None

@@ -1,3 +1,4 @@
 pub mod Codes
 pub mod Alphabets
+pub mod Fits
 pub mod Texts

@@ -1,19 +1,15 @@
--- The text of a code and of a member. Assumes nothing.
-use Rattle.std.specs.Prelude.{ℕ, List, Some, None, Option}
+-- The bytes of a word. Assumes nothing.
+use Rattle.std.specs.Prelude.{ℕ, Bool, cond, List, Some, None, Option}
+use Rattle.std.specs.Option.{option_map}
 use Rattle.ordered.specs.Keys.{content}
-use Rattle.codes.specs.declared.code.Code.{Code}
-use Rattle.codes.specs.declared.member.Member.{Member}
+use Rattle.codes.specs.declared.word.Word.{Word}
 
-abbrev pub code_text : Code → List ℕ
-code_text c = content c.text
+abbrev pub text : {K : _} {k : _} → Word K k → List ℕ
+text w = content w.text
 
-abbrev pub code_texts : Option Code → Option (List ℕ)
-code_texts (Some c) = Some (code_text c)
-code_texts None = None
+abbrev pub texts : {K : _} {k : _} → Option (Word K k) → Option (List ℕ)
+texts o = option_map text o
 
-abbrev pub member_text : Member → List ℕ
-member_text m = content m.text
-
-abbrev pub member_texts : Option Member → Option (List ℕ)
-member_texts (Some m) = Some (member_text m)
-member_texts None = None
+-- the bytes s, if they are good ones
+abbrev pub good_text : (List ℕ → Bool) → List ℕ → Option (List ℕ)
+good_text good s = cond (good s) (Some s) None

@@ -1,9 +1,9 @@
-// Codes of contracts and of members: types whose values always are good ones.
+// Codes of contracts and of members: words whose bytes always are good ones.
 #![tactic(auto)]
 
-mod code;
-mod member;
+mod kind;
 mod text;
+mod word;
 
-pub use code::Code;
-pub use member::Member;
+pub use kind::{CodeKind, Kind, MemberKind};
+pub use word::{Code, Member, Word};

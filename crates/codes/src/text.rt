@@ -2,6 +2,7 @@
 ghost use Rattle.std.specs.Prelude.{◌≡◌};
 ghost use Rattle.codes.specs.Alphabets.{allowed, all_allowed};
 
+// An enum, whose bytes a clause can name: of a test that is passed in it could say only what its calls give.
 #[derive(Clone, Copy)]
 pub(crate) enum Alphabet {
     // A to Z and 0 to 9.
@@ -23,11 +24,6 @@ impl Alphabet {
     pub(crate) fn has_all(self, text: &[u8]) -> bool
         ensures { result ≡ all_allowed self text.now }
     {
-        for byte in text {
-            if !self.has(*byte) {
-                return false;
-            }
-        }
-        true
+        text.iter().all(|byte| self.has(*byte))
     }
 }

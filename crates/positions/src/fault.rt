@@ -23,6 +23,7 @@ pub enum PositionFault {
 
 impl PositionFault {
     // The number that the fault goes by: the index's own where the index refused.
+    // By a match, since a case that holds a fault has no number of its own.
     pub fn number(self) -> u8
         ensures { result ≡ position_number self }
     {
@@ -37,6 +38,7 @@ impl PositionFault {
     }
 }
 
+// Written out: a derived `From` has no contract.
 impl From<IndexFault> for PositionFault {
     ghost from_gives = { λ f r. r ≡ Index f };
 
