@@ -1,5 +1,6 @@
 -- The commands that lines are read as. Assumes nothing.
 use Rattle.std.specs.Prelude.{ℕ, zero, suc, Bool, true, false, cond, not, ◌&&◌, List, [], ◌∷◌, length, Ok, Err, Result, ◌==◌, slice_index, slice_index_or}
+use Rattle.std.specs.Result.{result_map_both}
 use Rattle.lines.specs.declared.fault.LineFault.{LineFault}
 use Rattle.lines.specs.declared.fault.LineFault.TheVariants.{Malformed}
 use Rattle.lines.specs.declared.command.Command.{Command}
@@ -16,8 +17,7 @@ asked_by (command.Post member code lots) = post member.now code.now lots.now
 asked_by (command.List member) = list member.now
 
 abbrev pub asked : Result Command LineFault → Result Asked LineFault
-asked (Ok c) = Ok (asked_by c)
-asked (Err f) = Err f
+asked r = result_map_both asked_by (λ f. f) r
 
 -- ---- a line, by its words
 

@@ -1,5 +1,6 @@
 -- Numbers in a line. Assumes nothing.
-use Rattle.std.specs.Prelude.{ℕ, zero, suc, ◌+◌, ◌-◌, ◌*◌, Bool, cond, not, ◌&&◌, List, [], ◌∷◌, length, ℤ, pos, negsuc, Some, None, Ok, Err, fold, Option, Result, ◌==◌, nat_le, nat_lt, slice_index}
+use Rattle.std.specs.Prelude.{ℕ, zero, suc, ◌+◌, ◌-◌, ◌*◌, Bool, cond, not, ◌&&◌, List, [], ◌∷◌, length, ℤ, pos, negsuc, Some, None, fold, Option, Result, ◌==◌, nat_le, nat_lt, slice_index}
+use Rattle.std.specs.Option.{option_map, ok_or}
 use Rattle.std.specs.Str.{all_ascii_digits}
 use Rattle.lines.specs.declared.fault.LineFault.{LineFault}
 use Rattle.lines.specs.declared.fault.LineFault.TheVariants.{NotANumber}
@@ -25,13 +26,11 @@ negated (Some zero) = None
 negated (Some (suc n)) = Some (negsuc n)
 
 abbrev pub plain : Option ℕ → Option ℤ
-plain None = None
-plain (Some n) = Some (pos n)
+plain n = option_map pos n
 
 abbrev pub lots_number : List ℕ → Option ℤ
 lots_number [] = plain (number [])
 lots_number (b ∷ w) = cond (b == 45) (negated (number w)) (plain (number (b ∷ w)))
 
 abbrev pub number_reply : Option ℤ → Result ℤ LineFault
-number_reply None = Err NotANumber
-number_reply (Some z) = Ok z
+number_reply lots = ok_or lots NotANumber

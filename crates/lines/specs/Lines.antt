@@ -1,5 +1,6 @@
 -- Bytes of input as lines. Assumes nothing.
-use Rattle.std.specs.Prelude.{ℕ, Bool, true, false, cond, not, ◌&&◌, List, [], ◌∷◌, ◌++◌, length, Some, None, Ok, Err, Option, Result, ◌==◌, nat_lt}
+use Rattle.std.specs.Prelude.{ℕ, Bool, true, false, cond, not, ◌&&◌, List, [], ◌∷◌, ◌++◌, length, Some, None, Option, Result, ◌==◌, nat_lt}
+use Rattle.std.specs.Option.{ok_or}
 use Rattle.lines.specs.declared.fault.LineFault.{LineFault}
 use Rattle.lines.specs.declared.fault.LineFault.TheVariants.{TooLong}
 
@@ -30,5 +31,4 @@ abbrev pub pending : Reading → Bool
 pending r = not r.1 && any r.0
 
 abbrev pub line_reply : Option (List ℕ) → Result (List ℕ) LineFault
-line_reply None = Err TooLong
-line_reply (Some s) = Ok s
+line_reply line = ok_or line TooLong

@@ -1,5 +1,6 @@
 -- What the parts of a line hold. Assumes nothing.
-use Rattle.std.specs.Prelude.{ℕ, List, [], Some, None, Ok, Err, Option, Result}
+use Rattle.std.specs.Prelude.{ℕ, List, [], Some, None, Option, Result}
+use Rattle.std.specs.Result.{result_map_both}
 use Rattle.std.specs.Borrow.{Bor}
 use Rattle.lines.specs.declared.fault.LineFault.{LineFault}
 use Rattle.lines.specs.declared.words.Words.{Words}
@@ -14,5 +15,4 @@ abbrev pub rest_words : Words → List (List ℕ)
 rest_words w = part_words w.rest
 
 abbrev pub told : Result (Bor (List ℕ)) LineFault → Result (List ℕ) LineFault
-told (Ok r) = Ok r.now
-told (Err f) = Err f
+told r = result_map_both (λ w. w.now) (λ f. f) r

@@ -1,16 +1,12 @@
 -- A line as words: what stands between its spaces. Assumes nothing.
-use Rattle.std.specs.Prelude.{ℕ, cond, List, [], ◌∷◌, Ok, Err, Result, ◌==◌}
+use Rattle.std.specs.Prelude.{ℕ, List, [], ◌∷◌, Ok, Err, Result, ◌==◌}
+use Rattle.std.specs.List.{slice_split}
 use Rattle.lines.specs.declared.fault.LineFault.{LineFault}
 use Rattle.lines.specs.declared.fault.LineFault.TheVariants.{Malformed}
 
-abbrev pub onto : ℕ → List (List ℕ) → List (List ℕ)
-onto b [] = (b ∷ []) ∷ []
-onto b (w ∷ ws) = (b ∷ w) ∷ ws
-
 -- the parts of s between its separators, empty ones too
 abbrev pub split : ℕ → List ℕ → List (List ℕ)
-split separator [] = [] ∷ []
-split separator (b ∷ s) = cond (b == separator) ([] ∷ split separator s) (onto b (split separator s))
+split separator s = slice_split (λ b. b == separator) s
 
 -- ---- taking one word of those that are left
 

@@ -21,6 +21,7 @@ pub enum Command<'a> {
 }
 
 impl<'a> Command<'a> {
+    // Not a TryFrom, whose promise would be a ghost member of the impl and no clause.
     pub fn read(line: &'a [u8]) -> Result<Command<'a>, LineFault>
         ensures { asked result ≡ line_command line.now }
     {

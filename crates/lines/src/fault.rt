@@ -5,11 +5,11 @@ ghost use Rattle.lines.specs.Numbers.{line_number};
 #[derive(Clone, Copy)]
 pub enum LineFault {
     // More than 80 bytes.
-    TooLong,
+    TooLong = 43,
     // An unknown command, a wrong number of words, or other spacing than one space between words.
-    Malformed,
+    Malformed = 41,
     // A word that should be a number is none.
-    NotANumber,
+    NotANumber = 42,
 }
 
 impl LineFault {
@@ -17,10 +17,6 @@ impl LineFault {
     pub fn number(self) -> u8
         ensures { result ≡ line_number self }
     {
-        match self {
-            LineFault::TooLong => 43,
-            LineFault::Malformed => 41,
-            LineFault::NotANumber => 42,
-        }
+        self as u8
     }
 }

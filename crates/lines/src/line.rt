@@ -1,17 +1,17 @@
 // The line that is being read, byte by byte: at most 80 bytes of it are kept.
-ghost use Rattle.std.specs.Prelude.{◌≡◌, ◌≤◌, length};
+ghost use Rattle.std.specs.Prelude.{◌≤◌, length, IfSome};
+ghost use Rattle.std.proofs.Props.{props};
 ghost use Rattle.lines.specs.Lines.{max_line};
+
+use arrayvec::ArrayVec;
 
 mod feed;
 
 #[derive(Drop)]
 pub struct LineBuffer {
-    bytes: [u8; LineBuffer::MAX],
-    len: usize,
-    // More than 80 bytes came.
-    over: bool,
-    // The line's newline came.
+    // None where more bytes came.
+    line: Option<ArrayVec<u8, { LineBuffer::MAX }>>,
+    // The line's newline came. It does not say whether the bytes count.
     ended: bool,
-    ghost full: { length bytes ≡ max_line },
-    ghost short: { len ≤ max_line },
+    ghost short: { IfSome line (λ bytes. length bytes.items ≤ max_line) } by { Prim.hlevel props },
 }

@@ -9,15 +9,14 @@ use crate::fault::LineFault;
 fn cut(text: &[u8]) -> (&[u8], Option<&[u8]>)
     ensures { result.0.now ∷ part_words result.1 ≡ split 32 text.now }
 {
-    for (i, byte) in text.iter().enumerate() {
-        if *byte == b' ' {
-            return (&text[0..i], Some(&text[i + 1..]));
-        }
+    match text.iter().position(|byte| *byte == b' ') {
+        Some(at) => (&text[..at], Some(&text[at + 1..])),
+        None => (text, None),
     }
-    (text, None)
 }
 
 // The part of a line that has not been taken as words, or none behind its last word.
+// Not the library's `Split`, which holds a closure: each contract here would have to say what that computes.
 #[derive(Clone, Copy)]
 pub(crate) struct Words<'a> {
     rest: Option<&'a [u8]>,
@@ -35,9 +34,7 @@ impl<'a> Words<'a> {
         ensures reply { told result ≡ word_reply (rest_words self.old) }
         ensures after { rest_words self.new ≡ later (rest_words self.old) }
     {
-        let Some(text) = self.rest else {
-            return Err(LineFault::Malformed);
-        };
+        let text = self.rest.ok_or(LineFault::Malformed)?;
         let (word, rest) = cut(text);
         self.rest = rest;
         if word.is_empty() {
@@ -46,7 +43,8 @@ impl<'a> Words<'a> {
         Ok(word)
     }
 
-    // Sees that no word is left.
+    // Sees that no word is left. A match: an error where there is something, as `ok_or` is where there is nothing.
+    #[tactic(auto, using(crate::proofs::Cuts::some_words))]
     pub(crate) fn end(&self) -> Result<(), LineFault>
         ensures { result ≡ end_reply (rest_words self.now) }
     {

@@ -1,11 +1,12 @@
 // Bytes into lines.
-ghost use Rattle.std.specs.Prelude.{◌≡◌, true, false, [], Some, ◌==◌};
+ghost use Rattle.std.specs.Prelude.{◌≡◌, false, [], Some, ◌==◌};
 ghost use Rattle.lines.specs.Lines.{fed, begun, grown, pending, line_reply};
 ghost use Rattle.lines.specs.Buffers.{reading};
 ghost use Rattle.lines.specs.Parts.{told};
 
 use crate::fault::LineFault;
 use crate::line::LineBuffer;
+use arrayvec::ArrayVec;
 
 impl LineBuffer {
     // The most bytes of a line before its newline.
@@ -16,9 +17,7 @@ impl LineBuffer {
         ensures { reading result ≡ (Some [], false) }
     {
         LineBuffer {
-            bytes: [0; LineBuffer::MAX],
-            len: 0,
-            over: false,
+            line: Some(ArrayVec::new()),
             ended: false,
         }
     }
@@ -42,8 +41,7 @@ impl LineBuffer {
         ensures { reading self.new ≡ (begun (reading self.old), false) }
     {
         if self.ended {
-            self.len = 0;
-            self.over = false;
+            self.line.get_or_insert_with(ArrayVec::new).clear();
             self.ended = false;
         }
     }
@@ -52,12 +50,10 @@ impl LineBuffer {
     fn push(&mut self, byte: u8)
         ensures { reading self.new ≡ (grown (reading self.old).0 byte, (reading self.old).1) }
     {
-        if self.len < LineBuffer::MAX {
-            let at = self.len;
-            self.bytes[at] = byte;
-            self.len = at + 1;
-        } else {
-            self.over = true;
+        if let Some(bytes) = &mut self.line
+            && bytes.try_push(byte).is_err()
+        {
+            self.line = None;
         }
     }
 
@@ -65,16 +61,14 @@ impl LineBuffer {
     pub fn line(&self) -> Result<&[u8], LineFault>
         ensures { told result ≡ line_reply (reading self.now).0 }
     {
-        if self.over {
-            return Err(LineFault::TooLong);
-        }
-        Ok(&self.bytes[0..self.len])
+        let bytes = self.line.as_ref().ok_or(LineFault::TooLong)?;
+        Ok(bytes.as_slice())
     }
 
     // Whether bytes of a line came whose newline did not.
     pub fn pending(&self) -> bool
         ensures { result ≡ pending (reading self.now) }
     {
-        !self.ended && (self.over || self.len > 0)
+        !self.ended && self.line.as_ref().is_none_or(|bytes| !bytes.is_empty())
     }
 }
