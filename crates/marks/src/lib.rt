@@ -4,6 +4,7 @@
 mod bits;
 mod laws;
 mod marks;
+mod row;
 
 pub use laws::laws_stand;
 pub use marks::Marks;

@@ -1,13 +1,14 @@
 // Marks of tokens: set, cleared and asked for, and the greatest below a byte.
 ghost use Rattle.std.specs.Prelude.{◌≡◌, ℕ, suc, true, false, if◌then◌else◌, MatchBool, nat_eq};
 ghost use Rattle.names.specs.Names.{code, coded};
-ghost use Rattle.marks.specs.Bits.{clip};
 ghost use Rattle.marks.specs.Marked.{marked, byte_marked};
 ghost use Rattle.marks.specs.Search.{Found};
 
-use crate::bits::{low_bits, with_bit};
+use crate::bits::with_bit;
+use crate::row::{any_bit, last_below};
 use names::Token;
 
+// The catalogue lays down four words of 64 bits, and the mark of the end beside them.
 #[derive(Clone, Copy)]
 pub struct Marks {
     words: [u64; 4],
@@ -34,6 +35,7 @@ impl Marks {
         }
     }
 
+    // With `unmark` two names of `set`, whose flag a caller need not read.
     pub fn mark(&mut self, token: Token)
         ensures { (t : ℕ) → marked self.new t ≡ (if nat_eq t (code token) then true else marked self.old t) }
     {
@@ -47,27 +49,27 @@ impl Marks {
     }
 
     // Whether any token is marked.
+    #[tactic(auto, using(crate::proofs::Tokens::any_marked))]
     pub fn any(&self) -> bool
         ensures { MatchBool result ((t : ℕ) × (marked self.now t ≡ true)) ((t : ℕ) → marked self.now t ≡ false) }
     {
-        self.has_any()
+        self.end || any_bit(&self.words)
     }
 
     // The greatest marked byte below a byte.
     pub fn greatest_below(&self, byte: u8) -> Option<u8>
         ensures { Found (byte_marked self.now) byte result }
     {
-        self.last_below(byte)
+        last_below(&self.words, byte)
     }
 
     // The greatest marked token below a byte.
     pub fn lower(&self, byte: u8) -> Option<Token>
         ensures { Found (marked self.now) (suc byte) (coded result) }
     {
-        if let Some(found) = self.last_below(byte) {
-            return Some(Token::Byte(found));
-        }
-        if self.end { Some(Token::End) } else { None }
+        self.greatest_below(byte)
+            .map(Token::Byte)
+            .or(self.end.then_some(Token::End))
     }
 
     fn has_byte(&self, byte: u8) -> bool
@@ -82,41 +84,9 @@ impl Marks {
         match token {
             Token::End => self.end = on,
             Token::Byte(byte) => {
-                let at = (byte / 64) as usize;
-                self.words[at] = with_bit(self.words[at], byte % 64, on);
+                let word = &mut self.words[(byte / 64) as usize];
+                *word = with_bit(*word, byte % 64, on);
             }
         }
-    }
-
-    fn has_any(&self) -> bool
-        ensures { MatchBool result ((t : ℕ) × (marked self.now t ≡ true)) ((t : ℕ) → marked self.now t ≡ false) }
-    {
-        let [a, b, c, d] = self.words;
-        self.end || a | b | c | d != 0
-    }
-
-    // The words with only the marks below a byte.
-    fn below(&self, byte: u8) -> [u64; 4]
-        ensures { result ≡ clip byte self.now.words }
-    {
-        let [a, b, c, d] = self.words;
-        [
-            low_bits(a, byte),
-            low_bits(b, byte.saturating_sub(64)),
-            low_bits(c, byte.saturating_sub(128)),
-            low_bits(d, byte.saturating_sub(192)),
-        ]
-    }
-
-    fn last_below(&self, byte: u8) -> Option<u8>
-        ensures { Found (byte_marked self.now) byte result }
-    {
-        let row = self.below(byte);
-        for i in (0..4usize).rev() {
-            if row[i] != 0 {
-                return Some((64 * i) as u8 + row[i].ilog2() as u8);
-            }
-        }
-        None
     }
 }

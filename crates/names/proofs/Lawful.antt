@@ -1,7 +1,6 @@
 -- The laws of tokens and of names. Assumes nothing.
-use Rattle.std.proofs.Common.{not, refl, arith}
-use Rattle.std.proofs.lemmas.Bool.Decides.{Decides-eqb}
-use Rattle.std.proofs.lemmas.Slice.Eq.{slice_eq-Decides}
+use Rattle.std.proofs.Common.{not, arith}
+use Rattle.std.proofs.lemmas.Slice.Eq.{bytes_eq-Decides}
 use Rattle.std.proofs.lemmas.Bool.{and_parts}
 use Rattle.ordered.specs.Replies.{long}
 use Rattle.ordered.proofs.Contents as keys
@@ -19,7 +18,7 @@ laws = record {
   name_end = λ n. closed_spelled (start_of n) n.ended;
   name_formed = λ n. nameable_spelled (start_of n) n.ended (omega (arith, keys.content_long n.start, n.start.short));
   form_spelled = λ x h. form_spelled x (and_parts (end_last x) (not (long (bytes_of x))) h).0;
-  equal_tokens = λ m n. slice_eq-Decides Decides-eqb (tokens_of m) (tokens_of n) _ refl;
+  equal_tokens = λ m n. bytes_eq-Decides (tokens_of m) (tokens_of n);
   faithful = λ m n e.
       let parts = same_spelled (start_of m) (start_of n) m.ended n.ended e in
       let same = keys.faithful m.start n.start parts.0 in

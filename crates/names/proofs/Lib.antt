@@ -1,3 +1,2 @@
 pub mod Spellings
-pub mod Namings
 pub mod Lawful

@@ -1,13 +1,19 @@
 -- Bytes with the end or without it, as tokens. Assumes nothing.
-use Rattle.std.proofs.Common.{◌≡◌, ℕ, zero, suc, ◌+◌, ◌<◌, ◌≤◌, Bool, true, false, cond, not, eqb, List, [], ◌∷◌, ◌++◌, length, get_or, take, Some, None, Decides, Less, sym, refl, ap, ◌∙◌, arith}
-use Rattle.std.specs.List.{slice_get}
-use Rattle.std.proofs.lemmas.List.{append-nil, length-append, length-map, take_all, take-append-le, take-map, map_push}
-use Rattle.std.proofs.lemmas.Option.{slice_get_past}
-use Rattle.std.proofs.lemmas.Bool.{false≢true, and_parts, and_from, eqb-true, eq-eqb, le-ltb}
-use Rattle.std.proofs.lemmas.Bool.Decides.{nat_tests}
+use Rattle.std.proofs.Common.{◌≡◌, ℕ, zero, suc, ◌<◌, ◌≤◌, Bool, true, false, cond, not, ◌&&◌, eqb, List, [], ◌∷◌, ◌++◌, length, take, Some, None, Decides, Less, sym, refl, ap, ◌∙◌, arith}
+use Rattle.std.proofs.lemmas.List.{append-nil, take-map, map_push}
+use Rattle.std.proofs.lemmas.Bool.{false≢true, le-ltb}
+use Rattle.std.proofs.lemmas.Grind.{common_steps}
+use Rattle.std.proofs.lemmas.Bool.Decides.{nat_tests, same_from_decides, Decides-and, Decides-like}
+use Rattle.std.proofs.lemmas.Slice.Eq.{bytes_eq-Decides}
+use Rattle.std.specs.Cmp.Lexicographic.{pointwise}
+use mathlib.Core.Bool.{beq}
+use Rattle.std.specs.Cmp.{booleans_Decides}
 use Rattle.ordered.specs.Order.{max_key, order, begins}
+use Rattle.ordered.specs.Keys.{content}
 use Rattle.ordered.specs.Replies.{long}
-use Rattle.names.specs.Tokens.{tokens, tail, spelled, bytes_of, closed, end_last, nameable, good_name}
+use Rattle.ordered.specs.declared.key.Key.{Key}
+use Rattle.ordered.proofs.Contents.{content_long}
+use Rattle.names.specs.Tokens.{tokens, spelled, bytes_of, closed, end_last, nameable, good_name}
 
 pub bytes_spelled : (a : List ℕ) (t : Bool) → bytes_of (spelled a t) ≡ a
 bytes_spelled [] true = refl
@@ -25,91 +31,41 @@ same_spelled a b t u e = (
   sym (closed_spelled a t) ∙ ap closed e ∙ closed_spelled b u,
 )
 
--- ---- lengths, tokens and first tokens
+-- equality by the bytes and the end
+pub spelling_is : (a b : List ℕ) (t u : Bool) → Decides (pointwise eqb a b && beq t u) (spelled a t ≡ spelled b u)
+spelling_is a b t u =
+    let parts = Decides-and (pointwise eqb a b) (beq t u) (bytes_eq-Decides a b) (booleans_Decides t u) in
+    Decides-like _ (λ e. cc) (same_spelled a b t u) parts
 
-pub length_spelled : (a : List ℕ) (t : Bool) → length (spelled a t) ≡ length a + length (tail t)
-length_spelled a t = length-append (tokens a) (tail t) ∙ ap (λ n. n + length (tail t)) (length-map a suc)
+pub same_parts : (a b : List ℕ) (t u : Bool) → pointwise eqb (spelled a t) (spelled b u) ≡ (pointwise eqb a b && beq t u)
+same_parts a b t u = same_from_decides _ _ (bytes_eq-Decides (spelled a t) (spelled b u)) (spelling_is a b t u)
 
-pub length_tail : (t : Bool) → length (tail t) ≤ 1
-length_tail true = omega arith
-length_tail false = omega arith
-
-pub nth_byte : (a : List ℕ) (t : Bool) (i : ℕ) → i < length a → slice_get (spelled a t) i ≡ Some (suc (get_or a i 0))
-nth_byte [] t i h = absurd (omega arith)
-nth_byte (x ∷ a) t zero h = refl
-nth_byte (x ∷ a) t (suc i) h = nth_byte a t i (omega arith)
-
-pub nth_end : (a : List ℕ) → slice_get (spelled a true) (length a) ≡ Some 0
-nth_end [] = refl
-nth_end (x ∷ a) = nth_end a
-
-pub nth_behind : (a : List ℕ) (t : Bool) (i : ℕ) → length a + length (tail t) ≤ i → slice_get (spelled a t) i ≡ None
-nth_behind a t i h = slice_get_past (spelled a t) i (rw (length_spelled a t) h)
-
-pub open_spelled : (a : List ℕ) → spelled a false ≡ tokens a
-open_spelled a = append-nil (tokens a)
+-- ---- first tokens
 
 pub take_spelled : (a : List ℕ) (t : Bool) (n : ℕ) → n ≤ length a → take n (spelled a t) ≡ spelled (take n a) false
-take_spelled a t n h =
-    let l : n ≤ length (tokens a) = rw (length-map a suc) h in
-    take-append-le n (tokens a) (tail t) l ∙ take-map suc n a ∙ sym (open_spelled (take n a))
+take_spelled a t n h = grind (arith, common_steps, take-map)
 
 pub take_whole : (a : List ℕ) (t : Bool) (n : ℕ) → length a < n → take n (spelled a t) ≡ spelled a t
-take_whole a t n h = take_all n (spelled a t) (rw (length_spelled a t) (omega (arith, length_tail t)))
+take_whole a true n h = grind (arith, common_steps)
+take_whole a false n h = grind (arith, common_steps)
 
--- ---- one token more
-
-pub push_end : (a : List ℕ) → spelled a false ++ 0 ∷ [] ≡ spelled a true
-push_end a = ap (λ x. x ++ 0 ∷ []) (open_spelled a)
-
-pub push_byte : (a : List ℕ) (b : ℕ) → spelled a false ++ suc b ∷ [] ≡ spelled (a ++ b ∷ []) false
-push_byte a b = ap (λ x. x ++ suc b ∷ []) (open_spelled a) ∙ sym (map_push suc a b) ∙ sym (open_spelled (a ++ b ∷ []))
-
-unended : (a : List ℕ) (t : ℕ) → end_last (spelled a true ++ t ∷ []) ≡ false
-unended [] t = refl
-unended (x ∷ a) t = unended a t
-
-pub push_behind : (a : List ℕ) (t : ℕ) → good_name (spelled a true ++ t ∷ []) ≡ None
-push_behind a t = rw (unended a t)
+pub ruleset first_tokens = (take_whole, take_spelled)
 
 -- ---- prefixes
 
-pub begins_self : (x : List ℕ) → begins x x ≡ true
-begins_self [] = refl
-begins_self (t ∷ x) = let rest = begins_self x in grind (arith, nat_tests)
-
-pub begins_open : (a b : List ℕ) (u : Bool) → begins (spelled a false) (spelled b u) ≡ begins a b
-begins_open [] b u = refl
-begins_open (x ∷ a) [] true = grind (arith, nat_tests)
-begins_open (x ∷ a) [] false = refl
-begins_open (x ∷ a) (y ∷ b) u = let rest = begins_open a b u in grind (arith, nat_tests)
-
-pub begins_ended : (a b : List ℕ) (u : Bool) → begins (spelled a true) (spelled b u) ≡ true → spelled a true ≡ spelled b u
-begins_ended [] [] true h = refl
-begins_ended [] [] false h = absurd (false≢true h)
-begins_ended [] (y ∷ b) u h = grind (arith, nat_tests)
-begins_ended (x ∷ a) [] true h = grind (arith, nat_tests)
-begins_ended (x ∷ a) [] false h = absurd (false≢true h)
-begins_ended (x ∷ a) (y ∷ b) u h =
-    let both = and_parts (eqb (suc x) (suc y)) (begins (spelled a true) (spelled b u)) h in
-    let rest = begins_ended a b u both.1 in
-    let first = eqb-true (suc x) (suc y) both.0 in
-    cc
-
-pub begins_decides : (a b : List ℕ) (u : Bool) → Decides (begins (spelled a true) (spelled b u)) (spelled a true ≡ spelled b u)
-begins_decides a b u = (begins_ended a b u, λ e. rw (← e) (begins_self (spelled a true)))
+pub begins_spelled : (a b : List ℕ) (t u : Bool) → begins (spelled a t) (spelled b u) ≡ cond t (pointwise eqb a b && beq t u) (pointwise eqb a (take (length a) b))
+begins_spelled [] b false u = refl
+begins_spelled [] [] true true = refl
+begins_spelled [] [] true false = refl
+begins_spelled [] (y ∷ b) true u = grind (arith, nat_tests)
+begins_spelled (x ∷ a) [] t u = grind (arith, nat_tests, common_steps)
+begins_spelled (x ∷ a) (y ∷ b) true u = let rest = begins_spelled a b true u in grind (arith, nat_tests)
+begins_spelled (x ∷ a) (y ∷ b) false u = let rest = begins_spelled a b false u in grind (arith, nat_tests)
 
 pub begins_first : (x y : List ℕ) → Decides (begins x y) (take (length x) y ≡ x)
 begins_first [] y = (λ _. refl, λ _. refl)
 begins_first (s ∷ x) [] = (λ h. absurd (false≢true h), λ e. grind arith)
-begins_first (s ∷ x) (t ∷ y) =
-    let rest = begins_first x y in (
-      λ h. let both = and_parts (eqb s t) (begins x y) h in let first = eqb-true s t both.0 in let others = rest.0 both.1 in cc,
-      λ e.
-          let first : s ≡ t = cc in
-          let others : take (length x) y ≡ x = cc in
-          and_from (eqb s t) (begins x y) (eq-eqb s t first) (rest.1 others),
-    )
+begins_first (s ∷ x) (t ∷ y) = let rest = begins_first x y in grind (arith, nat_tests)
 
 -- ---- order
 
@@ -125,19 +81,38 @@ end_lowest (t ∷ x) y z b = let rest = end_lowest x y z b in grind (arith, nat_
 
 -- ---- the form of a name
 
-pub end_last_spelled : (a : List ℕ) (t : Bool) → end_last (spelled a t) ≡ true
+end_last_spelled : (a : List ℕ) (t : Bool) → end_last (spelled a t) ≡ true
 end_last_spelled [] true = refl
 end_last_spelled [] false = refl
 end_last_spelled (x ∷ a) t = end_last_spelled a t
 
-pub good_spelled : (a : List ℕ) (t : Bool) → good_name (spelled a t) ≡ cond (not (long a)) (Some (spelled a t)) None
+good_spelled : (a : List ℕ) (t : Bool) → good_name (spelled a t) ≡ cond (not (long a)) (Some (spelled a t)) None
 good_spelled a t = rw (end_last_spelled a t, bytes_spelled a t)
 
 pub nameable_spelled : (a : List ℕ) (t : Bool) → length a ≤ max_key → nameable (spelled a t) ≡ true
-nameable_spelled a t h = rw (end_last_spelled a t, bytes_spelled a t) (ap not (le-ltb max_key (length a) h))
+nameable_spelled a t h = grind (arith, nat_tests, end_last_spelled, bytes_spelled)
 
 pub form_spelled : (x : List ℕ) → end_last x ≡ true → spelled (bytes_of x) (closed x) ≡ x
 form_spelled [] h = refl
 form_spelled (zero ∷ []) h = refl
 form_spelled (zero ∷ (t ∷ x)) h = absurd (false≢true h)
 form_spelled (suc b ∷ x) h = ap (λ y. suc b ∷ y) (form_spelled x h)
+
+-- ---- one token more
+
+unended : (a : List ℕ) (t : ℕ) → end_last (spelled a true ++ t ∷ []) ≡ false
+unended [] t = refl
+unended (x ∷ a) t = unended a t
+
+pub push_behind : (a : List ℕ) (t : ℕ) → good_name (spelled a true ++ t ∷ []) ≡ None
+push_behind a t = rw (unended a t)
+
+pub push_end : (k : Key) → good_name (spelled (content k) false ++ 0 ∷ []) ≡ Some (spelled (content k) true)
+push_end k = simp append-nil (good_spelled (content k) true ∙ rw (le-ltb max_key (length (content k)) (omega (arith, content_long k, k.short))))
+
+pub push_byte : (a : List ℕ) (b : ℕ) → good_name (spelled a false ++ suc b ∷ []) ≡ cond (not (long (a ++ b ∷ []))) (Some (spelled (a ++ b ∷ []) false)) None
+push_byte a b =
+    let e : spelled a false ++ suc b ∷ [] ≡ spelled (a ++ b ∷ []) false = simp (append-nil, map_push) in
+    ap good_name e ∙ good_spelled (a ++ b ∷ []) false
+
+pub ruleset one_more = (push_behind, push_end, push_byte)

@@ -5,12 +5,16 @@ use Rattle.std.specs.Cmp.Lexicographic.{pointwise}
 use Rattle.std.specs.Option.{option_map}
 use Rattle.ordered.specs.Keys.{content}
 use Rattle.names.specs.declared.name.Name.{Name}
+use Rattle.names.specs.declared.spelling.Spelling.{Spelling}
 use Rattle.names.specs.declared.token.Token.{Token}
 use Rattle.names.specs.declared.token.Token.TheVariants.{End, Byte}
 use Rattle.names.specs.Tokens.{spelled}
 
 abbrev pub start_of : Name → List ℕ
 start_of n = content n.start
+
+abbrev pub spelt : Spelling → List ℕ
+spelt s = spelled s.bytes.now s.ended
 
 abbrev pub tokens_of : Name → List ℕ
 tokens_of n = spelled (start_of n) n.ended

@@ -1,46 +1,43 @@
 // Strings of tokens by their parts: the bytes, and whether the end follows them.
-ghost use Rattle.std.specs.Prelude.{◌≡◌, ◌≤◌, length, Decides};
+ghost use Rattle.std.specs.Prelude.{◌≡◌, length};
 ghost use Rattle.std.specs.List.{slice_get};
-ghost use Rattle.ordered.specs.Order.{max_key, begins};
-ghost use Rattle.names.specs.Tokens.{spelled};
-ghost use Rattle.names.specs.Names.{coded};
+ghost use Rattle.ordered.specs.Order.{begins};
+ghost use Rattle.names.specs.Names.{coded, spelt};
 
 use crate::token::Token;
 
-// How many tokens there are.
-pub(crate) fn count(bytes: &[u8], ended: bool) -> usize
-    requires { length bytes.now ≤ max_key }
-    ensures { result ≡ length (spelled bytes.now ended) }
-{
-    bytes.len() + usize::from(ended)
+#[derive(Clone, Copy, PartialEq, Eq)]
+pub(crate) struct Spelling<'a> {
+    pub(crate) bytes: &'a [u8],
+    pub(crate) ended: bool,
 }
 
-// Whether both are the same.
-pub(crate) fn alike(bytes: &[u8], ended: bool, other: &[u8], other_ended: bool) -> bool
-    ensures { Decides result (spelled bytes.now ended ≡ spelled other.now other_ended) }
-{
-    ended == other_ended && bytes == other
-}
+impl Spelling<'_> {
+    // How many tokens there are.
+    pub(crate) fn len(self) -> usize
+        ensures { result ≡ length (spelt self.entry) }
+    {
+        self.bytes.len() + usize::from(self.ended)
+    }
 
-// Whether the other begins with these.
-pub(crate) fn is_prefix(bytes: &[u8], ended: bool, other: &[u8], other_ended: bool) -> bool
-    ensures { result ≡ begins (spelled bytes.now ended) (spelled other.now other_ended) }
-{
-    if ended {
-        return alike(bytes, ended, other, other_ended);
+    // Whether the other begins with these.
+    #[tactic(auto, using(crate::proofs::Spellings::begins_spelled))]
+    pub(crate) fn is_prefix_of(self, other: Spelling) -> bool
+        ensures { result ≡ begins (spelt self.entry) (spelt other.entry) }
+    {
+        if self.ended {
+            self == other
+        } else {
+            other.bytes.starts_with(self.bytes)
+        }
     }
-    other.starts_with(bytes)
-}
 
-// The token behind the first `at` ones.
-pub(crate) fn token_at(bytes: &[u8], ended: bool, at: usize) -> Option<Token>
-    ensures { coded result ≡ slice_get (spelled bytes.now ended) at }
-{
-    if at < bytes.len() {
-        return Some(Token::Byte(bytes[at]));
+    // The token behind the first `at` ones.
+    pub(crate) fn token(self, at: usize) -> Option<Token>
+        ensures { coded result ≡ slice_get (spelt self.entry) at }
+    {
+        let end = self.ended && at == self.bytes.len();
+        let byte = self.bytes.get(at).copied();
+        byte.map(Token::Byte).or(end.then_some(Token::End))
     }
-    if at == bytes.len() && ended {
-        return Some(Token::End);
-    }
-    None
 }
