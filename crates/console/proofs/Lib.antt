@@ -1,6 +1,5 @@
 mod Spells
 mod Gathers
 mod Listed
-mod Posts
 mod Plains
 mod Sessions

@@ -5,4 +5,5 @@ pub mod Positions
 pub mod Listings
 pub mod Sayings
 pub mod Transcripts
+pub mod Sessions
 pub mod Laws

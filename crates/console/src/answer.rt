@@ -5,28 +5,24 @@ ghost use Rattle.console.specs.Sayings.{answer_text};
 use crate::fault::Fault;
 use crate::listing::Listing;
 use crate::position_line::PositionLine;
-use ordered::Key;
 use std::fmt;
 
 #[derive(Clone, Copy)]
-pub(crate) enum Answer {
-    // The key of the position that was posted to, and what it came to.
-    Posted { key: Key, lots: i64 },
+pub(crate) enum Answer<'a> {
+    // The position that was posted to, and what it came to.
+    Posted(PositionLine<'a>),
     // A member's positions.
     Listed(Listing),
     // The number of the line, and why it was refused.
     Refused { line: u64, fault: Fault },
 }
 
-impl fmt::Display for Answer {
+impl fmt::Display for Answer<'_> {
     ghost output = { λ a. Some (answer_text a) };
 
     fn fmt<W: fmt::Write>(&self, f: &mut fmt::Formatter<W>) -> fmt::Result {
         match self {
-            Answer::Posted { key, lots } => {
-                let position = PositionLine::of(key, *lots);
-                write!(f, "{position}")
-            }
+            Answer::Posted(position) => write!(f, "{position}"),
             Answer::Listed(listing) => write!(f, "{listing}"),
             Answer::Refused { line, fault } => {
                 let layer = fault.layer();

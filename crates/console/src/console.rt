@@ -9,8 +9,9 @@ ghost use Rattle.console.specs.Transcripts.{next_line};
 use crate::answer::Answer;
 use crate::fault::Fault;
 use crate::listing::Listing;
+use crate::position_line::PositionLine;
 use lines::{Command, LineFault};
-use ordered::{Key, OrderedIndex};
+use ordered::OrderedIndex;
 use positions::Positions;
 
 #[derive(Drop)]
@@ -22,13 +23,14 @@ pub(crate) struct Console<I: OrderedIndex<i64> + Drop> {
 
 impl<I: OrderedIndex<i64> + Drop> Console<I> {
     // Answers the next line, or what was wrong with reading it.
-    pub(crate) fn answer(&mut self, line: Result<&[u8], LineFault>) -> Answer
-        ensures text { answer_text result ≡ said (next_line self.old.lines) (line_outcome (I.pairs self.old.positions.index) (I.limit self.old.positions.index) (told line.entry)) }
-        ensures pairs { I.pairs self.new.positions.index ≡ line_pairs (I.pairs self.old.positions.index) (I.limit self.old.positions.index) (told line.entry) }
-        ensures limit { I.limit self.new.positions.index ≡ I.limit self.old.positions.index }
+    pub(crate) fn answer<'a>(&mut self, line: Result<&'a [u8], LineFault>) -> Answer<'a>
+        ensures text { answer_text result ≡ said (next_line self.old.lines) (line_outcome (I.pairs self.old.positions) (I.limit self.old.positions) (told line.entry)) }
+        ensures pairs { I.pairs self.new.positions ≡ line_pairs (I.pairs self.old.positions) (I.limit self.old.positions) (told line.entry) }
+        ensures limit { I.limit self.new.positions ≡ I.limit self.old.positions }
         ensures lines { self.new.lines ≡ next_line self.old.lines }
     {
         self.lines = self.lines.saturating_add(1);
+        // A match: the result of a closure under `unwrap_or_else` may not name the line's lifetime.
         match carry_out(&mut self.positions, line) {
             Ok(answer) => answer,
             Err(fault) => Answer::Refused {
@@ -40,13 +42,13 @@ impl<I: OrderedIndex<i64> + Drop> Console<I> {
 }
 
 // Reads a line as a command, and does what it asks.
-fn carry_out<I: OrderedIndex<i64> + Drop>(
+fn carry_out<'a, I: OrderedIndex<i64> + Drop>(
     positions: &mut Positions<I>,
-    line: Result<&[u8], LineFault>,
-) -> Result<Answer, Fault>
-    ensures outcome { answers_text result ≡ line_outcome (I.pairs positions.old.index) (I.limit positions.old.index) (told line.entry) }
-    ensures pairs { I.pairs positions.new.index ≡ line_pairs (I.pairs positions.old.index) (I.limit positions.old.index) (told line.entry) }
-    ensures limit { I.limit positions.new.index ≡ I.limit positions.old.index }
+    line: Result<&'a [u8], LineFault>,
+) -> Result<Answer<'a>, Fault>
+    ensures outcome { answers_text result ≡ line_outcome (I.pairs positions.old) (I.limit positions.old) (told line.entry) }
+    ensures pairs { I.pairs positions.new ≡ line_pairs (I.pairs positions.old) (I.limit positions.old) (told line.entry) }
+    ensures limit { I.limit positions.new ≡ I.limit positions.old }
 {
     match Command::read(line?)? {
         Command::Post { member, code, lots } => post(positions, member, code, lots),
@@ -55,18 +57,17 @@ fn carry_out<I: OrderedIndex<i64> + Drop>(
 }
 
 // Posts lots, by their word.
-fn post<I: OrderedIndex<i64> + Drop>(
+fn post<'a, I: OrderedIndex<i64> + Drop>(
     positions: &mut Positions<I>,
-    member: &[u8],
-    code: &[u8],
+    member: &'a [u8],
+    code: &'a [u8],
     lots: &[u8],
-) -> Result<Answer, Fault>
-    ensures outcome { answers_text result ≡ post_outcome (I.pairs positions.old.index) (I.limit positions.old.index) member.now code.now (number_reply (lots_number lots.now)) }
-    ensures pairs { I.pairs positions.new.index ≡ post_pairs (I.pairs positions.old.index) (I.limit positions.old.index) member.now code.now (number_reply (lots_number lots.now)) }
-    ensures limit { I.limit positions.new.index ≡ I.limit positions.old.index }
+) -> Result<Answer<'a>, Fault>
+    ensures outcome { answers_text result ≡ post_outcome (I.pairs positions.old) (I.limit positions.old) member.now code.now (number_reply (lots_number lots.now)) }
+    ensures pairs { I.pairs positions.new ≡ post_pairs (I.pairs positions.old) (I.limit positions.old) member.now code.now (number_reply (lots_number lots.now)) }
+    ensures limit { I.limit positions.new ≡ I.limit positions.old }
 {
     let lots = lines::lots(lots)?;
     let lots = positions.post(member, code, lots)?;
-    let key = Key::joined(member, code)?;
-    Ok(Answer::Posted { key, lots })
+    Ok(Answer::Posted(PositionLine { member, code, lots }))
 }

@@ -49,6 +49,7 @@ impl Fault {
     }
 
     // The number that the fault goes by, in whichever layer it arose.
+    // By a match, since a case that holds a fault has no number of its own.
     pub fn number(self) -> u8
         ensures { result ≡ fault_number self }
     {
@@ -59,6 +60,7 @@ impl Fault {
     }
 }
 
+// The three are written out: a derived `From` has no contract.
 impl From<LineFault> for Fault {
     ghost from_gives = { λ f r. r ≡ line f };
 

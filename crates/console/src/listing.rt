@@ -9,6 +9,7 @@ mod listed;
 // The most positions that are listed: an index of this limit is listed whole.
 pub const LIMIT: usize = 16;
 
+// Two rows and a count, as a run of the index writes them.
 #[derive(Clone, Copy)]
 pub(crate) struct Listing {
     keys: [Key; LIMIT],

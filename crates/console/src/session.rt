@@ -1,7 +1,8 @@
 // A session: input as it comes in parts, and the text that answers it.
 ghost use Rattle.std.specs.Prelude.{◌≡◌, false, [], ◌++◌, Some, string_bytes, OnOk};
 ghost use Rattle.lines.specs.Buffers.{reading};
-ghost use Rattle.console.specs.Transcripts.{standing, text_at, step, transcript, after, ending, ended};
+ghost use Rattle.console.specs.Sessions.{here};
+ghost use Rattle.console.specs.Transcripts.{text_at, step, transcript, after, ending, ended};
 
 use crate::console::Console;
 use lines::LineBuffer;
@@ -33,17 +34,18 @@ impl<I: OrderedIndex<i64> + Drop> Session<I> {
 
     // Takes a part of the input, and writes the answers to the lines that end in it.
     pub fn take(&mut self, input: &[u8], out: &mut String) -> fmt::Result
-        ensures text { OnOk result (string_bytes out.new ≡ string_bytes out.old ++ transcript (I.limit self.old.console.positions.index) (standing (reading self.old.line) self.old.console.lines (I.pairs self.old.console.positions.index)) input.now) }
-        ensures after { OnOk result (standing (reading self.new.line) self.new.console.lines (I.pairs self.new.console.positions.index) ≡ after (I.limit self.old.console.positions.index) (standing (reading self.old.line) self.old.console.lines (I.pairs self.old.console.positions.index)) input.now) }
-        ensures limit { I.limit self.new.console.positions.index ≡ I.limit self.old.console.positions.index }
+        ensures text { OnOk result (string_bytes out.new ≡ string_bytes out.old ++ transcript (I.limit self.old.console.positions) (here I.pairs self.old) input.now) }
+        ensures after { OnOk result (here I.pairs self.new ≡ after (I.limit self.old.console.positions) (here I.pairs self.old) input.now) }
+        ensures limit { I.limit self.new.console.positions ≡ I.limit self.old.console.positions }
     {
         self.take_bytes(input, out)
     }
 
+    // The work of `take`, whose own proof is one step.
     fn take_bytes(&mut self, input: &[u8], out: &mut String) -> fmt::Result
-        ensures text { OnOk result (string_bytes out.new ≡ string_bytes out.old ++ transcript (I.limit self.old.console.positions.index) (standing (reading self.old.line) self.old.console.lines (I.pairs self.old.console.positions.index)) input.now) }
-        ensures after { OnOk result (standing (reading self.new.line) self.new.console.lines (I.pairs self.new.console.positions.index) ≡ after (I.limit self.old.console.positions.index) (standing (reading self.old.line) self.old.console.lines (I.pairs self.old.console.positions.index)) input.now) }
-        ensures limit { I.limit self.new.console.positions.index ≡ I.limit self.old.console.positions.index }
+        ensures text { OnOk result (string_bytes out.new ≡ string_bytes out.old ++ transcript (I.limit self.old.console.positions) (here I.pairs self.old) input.now) }
+        ensures after { OnOk result (here I.pairs self.new ≡ after (I.limit self.old.console.positions) (here I.pairs self.old) input.now) }
+        ensures limit { I.limit self.new.console.positions ≡ I.limit self.old.console.positions }
     {
         for byte in input {
             self.take_byte(*byte, out)?;
@@ -52,9 +54,9 @@ impl<I: OrderedIndex<i64> + Drop> Session<I> {
     }
 
     fn take_byte(&mut self, byte: u8, out: &mut String) -> fmt::Result
-        ensures text { OnOk result (string_bytes out.new ≡ string_bytes out.old ++ text_at (I.limit self.old.console.positions.index) (standing (reading self.old.line) self.old.console.lines (I.pairs self.old.console.positions.index)) byte) }
-        ensures after { standing (reading self.new.line) self.new.console.lines (I.pairs self.new.console.positions.index) ≡ step (I.limit self.old.console.positions.index) (standing (reading self.old.line) self.old.console.lines (I.pairs self.old.console.positions.index)) byte }
-        ensures limit { I.limit self.new.console.positions.index ≡ I.limit self.old.console.positions.index }
+        ensures text { OnOk result (string_bytes out.new ≡ string_bytes out.old ++ text_at (I.limit self.old.console.positions) (here I.pairs self.old) byte) }
+        ensures after { here I.pairs self.new ≡ step (I.limit self.old.console.positions) (here I.pairs self.old) byte }
+        ensures limit { I.limit self.new.console.positions ≡ I.limit self.old.console.positions }
     {
         if self.line.feed(byte) {
             let answer = self.console.answer(self.line.line());
@@ -65,9 +67,9 @@ impl<I: OrderedIndex<i64> + Drop> Session<I> {
 
     // At the end of the input: a last line may lack its newline.
     pub fn finish(&mut self, out: &mut String) -> fmt::Result
-        ensures text { OnOk result (string_bytes out.new ≡ string_bytes out.old ++ ending (I.limit self.old.console.positions.index) (standing (reading self.old.line) self.old.console.lines (I.pairs self.old.console.positions.index))) }
-        ensures after { standing (reading self.new.line) self.new.console.lines (I.pairs self.new.console.positions.index) ≡ ended (I.limit self.old.console.positions.index) (standing (reading self.old.line) self.old.console.lines (I.pairs self.old.console.positions.index)) }
-        ensures limit { I.limit self.new.console.positions.index ≡ I.limit self.old.console.positions.index }
+        ensures text { OnOk result (string_bytes out.new ≡ string_bytes out.old ++ ending (I.limit self.old.console.positions) (here I.pairs self.old)) }
+        ensures after { here I.pairs self.new ≡ ended (I.limit self.old.console.positions) (here I.pairs self.old) }
+        ensures limit { I.limit self.new.console.positions ≡ I.limit self.old.console.positions }
     {
         if self.line.pending() {
             self.take_byte(b'\n', out)?;

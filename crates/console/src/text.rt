@@ -10,6 +10,7 @@ pub(crate) struct Text<'a>(pub(crate) &'a [u8]);
 impl fmt::Display for Text<'_> {
     ghost output = { λ t. Some (encodes t.0.now) };
 
+    #[tactic(auto, using(crate::proofs::Spells::encodes_more, std::proofs::lemmas::Grind::common_steps))]
     fn fmt<W: fmt::Write>(&self, f: &mut fmt::Formatter<W>) -> fmt::Result {
         let bytes = self.0;
         for byte in bytes {
