@@ -76,8 +76,8 @@ fn long_keys(rt: HostRuntime) -> Result<(), Fail> {
     let mut values = [0u8; 2];
     let mut index = SortedRow::new(Opening::check(&mut keys, &mut values)?);
     let long = [7u8; 25];
-    assert_eq!(rt; index.put(&long[0..24], 5), Ok(None));
-    assert_eq!(rt; index.get(&long[0..24]), Ok(Some(5)));
+    assert_eq!(rt; index.put(&long[..24], 5), Ok(None));
+    assert_eq!(rt; index.get(&long[..24]), Ok(Some(5)));
     assert_eq!(rt; index.get(&long), Err(IndexFault::KeyTooLong));
     assert_eq!(rt; index.put(&long, 6), Err(IndexFault::KeyTooLong));
     assert_eq!(rt; index.drop(&long), Err(IndexFault::KeyTooLong));

@@ -45,12 +45,8 @@ fn zero_is_a_byte(rt: HostRuntime) -> Result<(), Fail> {
 #[test]
 fn children(rt: HostRuntime) -> Result<(), Fail> {
     let name = Name::new(Key::new(b"A")?, false);
-    let Some(child) = name.child(Token::Byte(b'5')) else {
-        return Err(Fail::new("no name"));
-    };
-    let Some(ended) = child.child(Token::End) else {
-        return Err(Fail::new("no name"));
-    };
+    let child = name.child(Token::Byte(b'5')).ok_or("no name")?;
+    let ended = child.child(Token::End).ok_or("no name")?;
     assert!(rt; child.is(b"A5", false) && ended.is(b"A5", true));
     assert!(rt; ended.child(Token::End).is_none() && ended.child(Token::Byte(0)).is_none());
     let long = Name::new(Key::new(&[7; 24])?, false);

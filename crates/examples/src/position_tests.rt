@@ -2,12 +2,15 @@
 use ordered::{IndexFault, Key, OrderedIndex};
 use positions::{PositionFault, Positions};
 use sorted::{Opening, SortedRow};
-use std::process::Abort;
 use std::test::Fail;
 
 // A position grows, turns and closes; closed, it is listed no more.
-fn grows_and_closes<I: OrderedIndex<i64> + Drop>(rt: &impl Abort, index: I) -> Result<(), Fail> {
-    let mut book = Positions::open(index)?;
+#[test]
+fn grow_and_close(rt: HostRuntime) -> Result<(), Fail> {
+    let mut row = [Key::empty(); 2];
+    let mut held = [0i64; 2];
+    let opening = Opening::check(&mut row, &mut held)?;
+    let mut book = Positions::open(SortedRow::new(opening))?;
     assert_eq!(rt; book.post(b"KERN", b"WHT-1", 50), Ok(50));
     assert_eq!(rt; book.post(b"KERN", b"WHT-1", -80), Ok(-30));
     assert_eq!(rt; book.post(b"KERN", b"BAR-1", 5), Ok(5));
@@ -23,8 +26,12 @@ fn grows_and_closes<I: OrderedIndex<i64> + Drop>(rt: &impl Abort, index: I) -> R
 }
 
 // Each refusal, in the order in which they come.
-fn refuses<I: OrderedIndex<i64> + Drop>(rt: &impl Abort, index: I) -> Result<(), Fail> {
-    let mut book = Positions::open(index)?;
+#[test]
+fn refuse_in_order(rt: HostRuntime) -> Result<(), Fail> {
+    let mut row = [Key::empty(); 2];
+    let mut held = [0i64; 2];
+    let opening = Opening::check(&mut row, &mut held)?;
+    let mut book = Positions::open(SortedRow::new(opening))?;
     let index_full = PositionFault::Index(IndexFault::Full);
     let unequal = PositionFault::Index(IndexFault::UnequalRows);
     assert_eq!(rt; book.post(b"kern", b"", 0), Err(PositionFault::BadMember));
@@ -48,38 +55,13 @@ fn refuses<I: OrderedIndex<i64> + Drop>(rt: &impl Abort, index: I) -> Result<(),
     Ok(())
 }
 
-#[test]
-fn grow_and_close(rt: HostRuntime) -> Result<(), Fail> {
-    let mut keys = [Key::empty(); 2];
-    let mut lots = [0i64; 2];
-    let opening = Opening::check(&mut keys, &mut lots)?;
-    grows_and_closes(&rt, SortedRow::new(opening))
-}
-
-#[test]
-fn refuse_in_order(rt: HostRuntime) -> Result<(), Fail> {
-    let mut keys = [Key::empty(); 2];
-    let mut lots = [0i64; 2];
-    let opening = Opening::check(&mut keys, &mut lots)?;
-    refuses(&rt, SortedRow::new(opening))
-}
-
 // Positions open over nothing but an empty index.
-fn refuses_full<I: OrderedIndex<i64> + Drop>(rt: &impl Abort, index: I) -> Result<(), Fail> {
-    match Positions::open(index) {
-        Ok(_) => Err(Fail::new("opened over an index that holds something")),
-        Err(fault) => {
-            assert_eq!(rt; fault, PositionFault::NotEmpty);
-            Ok(())
-        },
-    }
-}
-
 #[test]
 fn open_over_a_pair(rt: HostRuntime) -> Result<(), Fail> {
     let mut keys = [Key::empty(); 2];
     let mut lots = [0i64; 2];
     let mut index = SortedRow::new(Opening::check(&mut keys, &mut lots)?);
     assert_eq!(rt; index.put(b"x", 1), Ok(None));
-    refuses_full(&rt, index)
+    assert_eq!(rt; Positions::open(index).err(), Some(PositionFault::NotEmpty));
+    Ok(())
 }
