@@ -26,6 +26,7 @@ pub struct CodeKind;
 #[derive(Clone, Copy)]
 pub struct MemberKind;
 
+// Two tests, since each kind has its own bound and its own bytes.
 impl Kind for CodeKind {
     ghost good = { is_code };
 

@@ -2,7 +2,8 @@
 ghost use Rattle.std.specs.Prelude.{◌≡◌};
 ghost use Rattle.codes.specs.Alphabets.{allowed, all_allowed};
 
-// An enum, whose bytes a clause can name: of a test that is passed in it could say only what its calls give.
+// An enum and no function that is passed in: a clause can say which bytes a case of it allows, and of such a function
+// only what it returns.
 #[derive(Clone, Copy)]
 pub(crate) enum Alphabet {
     // A to Z and 0 to 9.

@@ -80,6 +80,7 @@ impl StringHash for Crc32c {
         ONES
     }
 
+    // As that of FNV-1a, by this hash's own step: the trait has no step, since the end hash goes by none.
     fn feed(state: u32, bytes: &[u8]) -> u32 {
         bytes.iter().copied().fold(state, step)
     }

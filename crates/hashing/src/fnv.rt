@@ -39,6 +39,7 @@ impl StringHash for Fnv1a {
         OFFSET
     }
 
+    // As that of CRC-32C, by this hash's own step: the trait has no step, since the end hash goes by none.
     fn feed(state: u32, bytes: &[u8]) -> u32 {
         bytes.iter().copied().fold(state, step)
     }

@@ -11,7 +11,7 @@ mod feed;
 pub struct LineBuffer {
     // None where more bytes came.
     line: Option<ArrayVec<u8, { LineBuffer::MAX }>>,
-    // The line's newline came. It does not say whether the bytes count.
+    // The line's newline came; whether the bytes count is said by `line` alone.
     ended: bool,
     ghost short: { IfSome line (λ bytes. length bytes.items ≤ max_line) } by { Prim.hlevel props },
 }

@@ -35,7 +35,7 @@ impl Marks {
         }
     }
 
-    // With `unmark` two names of `set`, whose flag a caller need not read.
+    // This and `unmark` are `set` by two names, so that no call has to read a flag.
     pub fn mark(&mut self, token: Token)
         ensures { (t : ℕ) → marked self.new t ≡ (if nat_eq t (code token) then true else marked self.old t) }
     {

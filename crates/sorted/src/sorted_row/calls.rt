@@ -1,9 +1,9 @@
-// The calls of an ordered index, by a search among the keys: the work of the trait's functions, each of which is one
-// of these calls, so that its own proof is one step.
+// The search among the keys, and the work of a put and of a run: these have a proof in a file, and the trait's own
+// functions are one step over them.
 ghost use Rattle.std.specs.Prelude.{◌≡◌, ◌||◌, map, length};
 ghost use Rattle.ordered.specs.Keys.{content};
-ghost use Rattle.ordered.specs.Pairs.{Spot, Spanned, Stopped, firsts, inserted, erased};
-ghost use Rattle.ordered.specs.Replies.{get_reply, put_reply, drop_reply, run_reply, run_keys, run_values, changed, bound, long, long_end};
+ghost use Rattle.ordered.specs.Pairs.{Spot, Spanned, Stopped, firsts, inserted};
+ghost use Rattle.ordered.specs.Replies.{put_reply, run_reply, run_keys, run_values, changed, bound, long, long_end};
 ghost use Rattle.sorted.specs.Rows.{places, pairs_of};
 
 use crate::place::place;
@@ -12,20 +12,6 @@ use crate::sorted_row::SortedRow;
 use ordered::{IndexFault, Key};
 
 impl<V: Copy> SortedRow<'_, V> {
-    #[tactic(auto, using(crate::proofs::Spots::pairs_long))]
-    pub(super) fn look_up(&self, key: &[u8]) -> Result<Option<V>, IndexFault>
-        ensures { result ≡ get_reply (pairs_of self.now.rows) key.now }
-    {
-        if key.len() > Key::MAX {
-            return Err(IndexFault::KeyTooLong);
-        }
-        // A match: of a closure under `map` it stays open that its place is in use.
-        match self.find(key) {
-            Ok(at) => Ok(Some(self.rows.value(at))),
-            Err(_) => Ok(None),
-        }
-    }
-
     pub(super) fn hold(&mut self, key: &[u8], value: V) -> Result<Option<V>, IndexFault>
         ensures reply { result ≡ put_reply (pairs_of self.old.rows) (places self.old.rows) key.now }
         ensures after { pairs_of self.new.rows ≡ changed result (pairs_of self.old.rows) (inserted (pairs_of self.old.rows) key.now value) }
@@ -42,22 +28,6 @@ impl<V: Copy> SortedRow<'_, V> {
                 Ok(None)
             }
         }
-    }
-
-    #[tactic(auto, using(crate::proofs::Spots::pairs_long, crate::proofs::Spots::still_erased))]
-    pub(super) fn let_go(&mut self, key: &[u8]) -> Result<V, IndexFault>
-        ensures reply { result ≡ drop_reply (pairs_of self.old.rows) key.now }
-        ensures after { pairs_of self.new.rows ≡ changed result (pairs_of self.old.rows) (erased (pairs_of self.old.rows) key.now) }
-        ensures limit { places self.new.rows ≡ places self.old.rows }
-    {
-        if key.len() > Key::MAX {
-            return Err(IndexFault::KeyTooLong);
-        }
-        // `Err` has the place where the key belongs, which is no error here.
-        let Ok(at) = self.find(key) else {
-            return Err(IndexFault::NotHeld);
-        };
-        Ok(self.rows.remove(at))
     }
 
     pub(super) fn copy_run(
@@ -86,7 +56,7 @@ impl<V: Copy> SortedRow<'_, V> {
     }
 
     // `Ok` of the place that holds the key, or else `Err` of the place where it belongs.
-    fn find(&self, key: &[u8]) -> Result<usize, usize>
+    pub(super) fn find(&self, key: &[u8]) -> Result<usize, usize>
         ensures { Spot (pairs_of self.now.rows) key.now result }
     {
         let keys = self.rows.used_keys();

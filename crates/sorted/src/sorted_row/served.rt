@@ -27,16 +27,32 @@ impl<V: Copy> OrderedIndex<V> for SortedRow<'_, V> {
 
     ghost fits = { λ s. rows_fit s.rows };
 
+    #[tactic(auto, using(crate::proofs::Spots::pairs_long))]
     fn get(&self, key: &[u8]) -> Result<Option<V>, IndexFault> {
-        self.look_up(key)
+        if key.len() > Key::MAX {
+            return Err(IndexFault::KeyTooLong);
+        }
+        // A match: of a closure under `map` it stays open that its place is in use.
+        match self.find(key) {
+            Ok(at) => Ok(Some(self.rows.value(at))),
+            Err(_) => Ok(None),
+        }
     }
 
     fn put(&mut self, key: &[u8], value: V) -> Result<Option<V>, IndexFault> {
         self.hold(key, value)
     }
 
+    #[tactic(auto, using(crate::proofs::Spots::pairs_long, crate::proofs::Spots::still_erased))]
     fn drop(&mut self, key: &[u8]) -> Result<V, IndexFault> {
-        self.let_go(key)
+        if key.len() > Key::MAX {
+            return Err(IndexFault::KeyTooLong);
+        }
+        // `Err` has the place where the key belongs, which is no error here.
+        let Ok(at) = self.find(key) else {
+            return Err(IndexFault::NotHeld);
+        };
+        Ok(self.rows.remove(at))
     }
 
     #[tactic(auto, using(crate::proofs::Spots::pairs_long))]
