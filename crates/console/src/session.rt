@@ -38,6 +38,15 @@ impl<I: OrderedIndex<i64> + Drop> Session<I> {
         ensures after { OnOk result (here I.pairs self.new ≡ after (I.limit self.old.console.positions) (here I.pairs self.old) input.now) }
         ensures limit { I.limit self.new.console.positions ≡ I.limit self.old.console.positions }
     {
+        self.take_bytes(input, out)
+    }
+
+    // The work of `take`, whose own proof is one step: the loop's invariant stands in a file.
+    fn take_bytes(&mut self, input: &[u8], out: &mut String) -> fmt::Result
+        ensures text { OnOk result (string_bytes out.new ≡ string_bytes out.old ++ transcript (I.limit self.old.console.positions) (here I.pairs self.old) input.now) }
+        ensures after { OnOk result (here I.pairs self.new ≡ after (I.limit self.old.console.positions) (here I.pairs self.old) input.now) }
+        ensures limit { I.limit self.new.console.positions ≡ I.limit self.old.console.positions }
+    {
         for byte in input {
             self.take_byte(*byte, out)?;
         }

@@ -1,7 +1,7 @@
 use Rattle.std.proofs.Common.{◌≡◌, ◌++◌, drop, string_bytes}
 use Rattle.console.specs.Sessions.{here}
 use Rattle.console.specs.Transcripts.{transcript, after}
-use Rattle.console.proofs.session.Session.take.Given as goal
+use Rattle.console.proofs.session.Session.take_bytes.Given as goal
 
 -- what was written and what is to be written are the whole; and so for what the session comes to
 abbrev pub invariant-loop-byte : goal.invariant-loop-byte
