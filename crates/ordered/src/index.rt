@@ -15,6 +15,12 @@ pub trait OrderedIndex<V: Copy> {
     // The most pairs that may be held: a number of the value and not of its type, so each change says that it stays.
     ghost limit: { Self → ℕ };
 
+    // Proofs that each `impl` gives: the keys ascend strictly, and there are at most `limit` pairs. They stand above the
+    // functions, so that clauses can name them: below, as laws, they could be used in proofs alone.
+    ghost ascending: { (s : Self) → ascends (firsts (pairs s)) ≡ true };
+
+    ghost fits: { (s : Self) → length (pairs s) ≤ limit s };
+
     // The key's value, if it is held.
     fn get(&self, key: &[u8]) -> Result<Option<V>, IndexFault>
         ensures { result ≡ get_reply (pairs self.now) key.now };
@@ -49,9 +55,4 @@ pub trait OrderedIndex<V: Copy> {
         ensures reply { result ≡ run_reply (pairs self.now) first.now (bound end.entry) (length keys.old) (length values.old) }
         ensures keys { map content keys.new ≡ run_keys result (pairs self.now) first.now (bound end.entry) (map content keys.old) }
         ensures values { values.new ≡ run_values result (pairs self.now) first.now (bound end.entry) values.old };
-
-    // The keys ascend strictly, and there are at most `limit` pairs.
-    ghost ascending: { (s : Self) → ascends (firsts (pairs s)) ≡ true };
-
-    ghost fits: { (s : Self) → length (pairs s) ≤ limit s };
 }
