@@ -67,9 +67,8 @@ impl Marks {
     pub fn lower(&self, byte: u8) -> Option<Token>
         ensures { Found (marked self.now) (suc byte) (coded result) }
     {
-        self.greatest_below(byte)
-            .map(Token::Byte)
-            .or(self.end.then_some(Token::End))
+        let found = last_below(&self.words, byte);
+        found.map(Token::Byte).or(self.end.then_some(Token::End))
     }
 
     fn has_byte(&self, byte: u8) -> bool
