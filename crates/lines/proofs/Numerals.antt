@@ -9,7 +9,7 @@ use Rattle.std.proofs.lemmas.Bool.Decides.{nat_tests}
 use Rattle.std.specs.Str.{all_ascii_digits}
 use Rattle.lines.specs.Decimals.{is_number, value, number, negated, plain, lots_number}
 
-abbrev on : ℕ → List ℕ → ℕ
+abbrev pub on : ℕ → List ℕ → ℕ
 on n w = fold (λ m b. m * 10 + (b - 48)) n w
 
 pub own : IsNumeralModel (λ w. all_ascii_digits w ≡ true) value

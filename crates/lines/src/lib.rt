@@ -3,6 +3,7 @@
 
 mod command;
 mod fault;
+mod held;
 mod laws;
 mod line;
 mod number;

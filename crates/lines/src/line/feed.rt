@@ -5,8 +5,8 @@ ghost use Rattle.lines.specs.Buffers.{reading};
 ghost use Rattle.lines.specs.Parts.{told};
 
 use crate::fault::LineFault;
+use crate::held::Held;
 use crate::line::LineBuffer;
-use arrayvec::ArrayVec;
 
 impl LineBuffer {
     // The most bytes of a line before its newline.
@@ -17,7 +17,7 @@ impl LineBuffer {
         ensures { reading result ≡ (Some [], false) }
     {
         LineBuffer {
-            line: Some(ArrayVec::new()),
+            line: Some(Held::new()),
             ended: false,
         }
     }
@@ -41,7 +41,7 @@ impl LineBuffer {
         ensures { reading self.new ≡ (begun (reading self.old), false) }
     {
         if self.ended {
-            self.line.get_or_insert_with(ArrayVec::new).clear();
+            self.line.get_or_insert_with(Held::new).clear();
             self.ended = false;
         }
     }
@@ -51,7 +51,7 @@ impl LineBuffer {
         ensures { reading self.new ≡ (grown (reading self.old).0 byte, (reading self.old).1) }
     {
         if let Some(bytes) = &mut self.line
-            && bytes.try_push(byte).is_err()
+            && !bytes.push(byte)
         {
             self.line = None;
         }

@@ -1,12 +1,16 @@
-use Rattle.std.proofs.Common.{◌≡◌, ◌∙◌, rules}
-use Rattle.lines.proofs.Digits.{read_text, read_no_text}
+use Rattle.std.proofs.Common.{◌≡◌, ◌∙◌, ap, rules, tests}
+use mir.Syntax.{w64}
+use Rattle.std.specs.Int.{cast_signed}
+use Rattle.std.specs.Option.{option_map}
+use Rattle.std.proofs.lemmas.Iterator.{YieldsList-from_slice}
+use Rattle.std.proofs.lemmas.Iterator.Consumers.{YieldsList-from_copied, YieldsList-at}
+use Rattle.lines.proofs.Digits.{word_tried, word_read}
 use Rattle.lines.proofs.number.positive.Goals as goal
 
-pub returns-in_err-ok-in-49-to-57 : goal.returns-in_err-ok-in-49-to-57
-returns-in_err-ok-in-49-to-57 c = c.from_residual.ensures ∙ read_no_text c.args.word.now (search rules)
-
-pub returns-in_ok-ok-in-49-to-57 : goal.returns-in_ok-ok-in-49-to-57
-returns-in_ok-ok-in-49-to-57 c =
+pub returns-in-49-to-57 : goal.returns-in-49-to-57
+returns-in-49-to-57 c =
     let w = c.args.word.now in
-    let is : c.in_ok-ok-in-49-to-57.field-0.now ≡ w = search rules in
-    c.ok-in-49-to-57.ensures.value ∙ read_text w c.parse.result (search rules) (search rules) (search rules) c.if-word-le-MAX_DIGITS.true (rw is at c.parse.ensures.value.0)
+    let bytes = YieldsList-from_copied (YieldsList-at c.copied.ensures.source (YieldsList-from_slice w (cc))) in
+    let tried = word_tried _ _ _ _ c.try_fold.result (λ n b o q k. search (rules, tests)) w _ c.try_fold.ensures.ran bytes in
+    let signed : c.map.result ≡ option_map (cast_signed w64) c.try_fold.result = search rules in
+    signed ∙ ap (option_map (cast_signed w64)) tried ∙ word_read w (search rules) (search rules) (search rules)
