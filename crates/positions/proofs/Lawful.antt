@@ -8,6 +8,7 @@ use Rattle.ordered.specs.Order.{order, ascends}
 use Rattle.ordered.specs.Pairs.{Pairs, firsts, lookup}
 use Rattle.ordered.proofs.Orders.{order_exact, order_same}
 use Rattle.ordered.proofs.Lawful.{list_laws}
+use Rattle.codes.specs.Codes.{is_member, is_code}
 use Rattle.positions.specs.declared.fault.PositionFault.{PositionFault}
 use Rattle.positions.specs.Posting.{flat, beyond, lots_of, total, settled, post_reply, posted, max_position}
 use Rattle.positions.specs.Laws.{Open, Ticket, after_all, credit, credited, Laws}
@@ -45,6 +46,10 @@ module _ (ps : Pairs ℤ) (limit : ℕ) (member code : List ℕ) (lots : ℤ) wh
 
   abbrev left : Pairs ℤ
   left = posted ps limit member code lots
+
+  -- what an accepted posting tells of what was posted
+  pub accepted : (s : ℤ) → reply ≡ Ok s → (s ≡ sum) × (beyond max_position sum ≡ false) × (is_member member ≡ true) × (is_code code ≡ true)
+  accepted s h = grind arith
 
   adds : (s : ℤ) → ascends (firsts ps) ≡ true → reply ≡ Ok s → (s ≡ sum) × (lots_of left member code ≡ s)
   adds s up h = grind (arith, settled_same ps key sum up)
